@@ -1,0 +1,6 @@
+pub mod Format
+pub mod Layout
+pub mod Faults
+pub mod Checks
+pub mod Checking
+pub mod Laws

@@ -1,0 +1,72 @@
+//! Reads the header and the records of a framed file. The only file that knows where the fields stand.
+
+ghost use mathlib.Core.Path.{_≡_};
+ghost use Prim.Native.Nat.{ℕ, _+_, _<_, _≤_};
+ghost use Rattle.rcm.specs.Format.{version-1};
+ghost use Rattle.rcm.specs.Layout.{head-of, state-told, action-told, outcome-told};
+use crate::bytes::u16_at;
+use crate::bytes::u32_at;
+use crate::frame::Framed;
+use crate::records::ActionRecord;
+use crate::records::Head;
+use crate::records::OutcomeRecord;
+use crate::records::StateRecord;
+
+impl Framed<'_> {
+    pub fn head(&self) -> Head
+        ensures { λ r. ⌜ r ≡ head-of (now (now (self .entry) .bytes)) ⌝ }
+    {
+        self.head
+    }
+
+    /// A state's record; zeros for a state that the file lacks.
+    pub fn state(&self, s: u32) -> StateRecord
+        ensures { λ r. ⌜ r ≡ state-told version-1 (now (now (self .entry) .bytes)) s ⌝ }
+    {
+        if s >= u32::from(self.head.states) {
+            return StateRecord::NONE;
+        }
+        let byte = 17 + 8 * s;
+        let at = byte as usize;
+        StateRecord {
+            byte,
+            kind: self.bytes[at],
+            estimate: u32_at(self.bytes, at + 1),
+            first: u16_at(self.bytes, at + 5),
+            count: self.bytes[at + 7],
+        }
+    }
+
+    /// An action's record; zeros for an action that the file lacks.
+    pub fn action(&self, a: u32) -> ActionRecord
+        ensures { λ r. ⌜ r ≡ action-told version-1 (now (now (self .entry) .bytes)) a ⌝ }
+    {
+        if a >= u32::from(self.head.actions) {
+            return ActionRecord::NONE;
+        }
+        let byte = 17 + 8 * u32::from(self.head.states) + 7 * a;
+        let at = byte as usize;
+        ActionRecord {
+            byte,
+            cost: u32_at(self.bytes, at),
+            first: u16_at(self.bytes, at + 4),
+            count: self.bytes[at + 6],
+        }
+    }
+
+    /// An outcome's record; zeros for an outcome that the file lacks.
+    pub fn outcome(&self, o: u32) -> OutcomeRecord
+        ensures { λ r. ⌜ r ≡ outcome-told version-1 (now (now (self .entry) .bytes)) o ⌝ }
+    {
+        if o >= u32::from(self.head.outcomes) {
+            return OutcomeRecord::NONE;
+        }
+        let byte = 17 + 8 * u32::from(self.head.states) + 7 * u32::from(self.head.actions) + 4 * o;
+        let at = byte as usize;
+        OutcomeRecord {
+            byte,
+            state: u16_at(self.bytes, at),
+            weight: u32::from(u16_at(self.bytes, at + 2)),
+        }
+    }
+}

@@ -1,0 +1,4 @@
+pub mod Offsets
+pub mod Sections
+pub mod Estimates
+pub mod Passing

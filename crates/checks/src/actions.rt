@@ -1,0 +1,53 @@
+//! The actions' section: the check of an action, and of all.
+
+ghost use mathlib.Core.Path.{_≡_};
+ghost use Prim.Native.Nat.{ℕ, _+_, _<_, _≤_};
+ghost use Rattle.rcm.specs.declared.faults.Place.the-variants.{InAction};
+ghost use Rattle.rcm.specs.declared.faults.Cause.the-variants.{ActionField};
+ghost use Rattle.rcm.specs.Format.{version-1};
+ghost use Rattle.rcm.specs.Layout.{actions, outcome-count, sum-below};
+ghost use Rattle.rcm.specs.Checks.{ActionRule, ActionsRule, action-offset};
+ghost use Rattle.rcm.specs.Checking.{RecordChecked, Checked, Holds};
+use rcm::ActionRecord;
+use rcm::FieldFault;
+use rcm::Framed;
+use rcm::Place;
+use rcm::RecordFault;
+use rcm::RecordFromField;
+use rcm::limited;
+
+/// Checks the fields of an action, after so many outcomes of the actions before it.
+fn check_action(action: ActionRecord, a: u32, before: u32) -> Result<(), FieldFault>
+    requires { ⌜ action .byte < 65536 ⌝ }
+    ensures { λ r. ⌜ RecordChecked InAction a (action .byte) action-offset (ActionRule version-1 before action) (λ _. Unit {0}) r ⌝ }
+{
+    let byte = action.byte;
+    limited(action.cost, 1, 1_000_000, Place::InAction.fault(a, byte))?;
+    limited(
+        u32::from(action.first),
+        before,
+        before,
+        Place::InAction.fault(a, byte + 4),
+    )?;
+    limited(
+        u32::from(action.count),
+        1,
+        8,
+        Place::InAction.fault(a, byte + 6),
+    )
+}
+
+/// Checks the actions' section. Gives the sum of the actions' numbers of outcomes.
+pub fn check_actions(file: &Framed) -> Result<u32, RecordFault>
+    ensures { λ r. ⌜ Checked version-1 (now (now (file .entry) .bytes)) ActionField
+        (λ n. (n ≡ sum-below (outcome-count version-1 (now (now (file .entry) .bytes))) (actions (now (now (file .entry) .bytes))))
+        × Holds (actions (now (now (file .entry) .bytes))) (ActionsRule version-1 (now (now (file .entry) .bytes)))) r ⌝ }
+{
+    let mut before = 0;
+    for a in 0..u32::from(file.head().actions) {
+        let action = file.action(a);
+        check_action(action, a, before)?;
+        before += u32::from(action.count);
+    }
+    Ok(before)
+}

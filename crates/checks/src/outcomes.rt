@@ -1,0 +1,46 @@
+//! The outcomes' section: the check of an outcome, and of all.
+
+ghost use mathlib.Core.Path.{_≡_};
+ghost use Prim.Native.Nat.{ℕ, _+_, _<_, _≤_};
+ghost use Rattle.rcm.specs.declared.faults.Place.the-variants.{InOutcome};
+ghost use Rattle.rcm.specs.declared.faults.Cause.the-variants.{OutcomeField};
+ghost use Rattle.rcm.specs.Format.{version-1};
+ghost use Rattle.rcm.specs.Layout.{states, outcomes};
+ghost use Rattle.rcm.specs.Checks.{OutcomeRule, OutcomesRule, outcome-offset};
+ghost use Rattle.rcm.specs.Checking.{RecordChecked, Checked, Holds};
+use rcm::FieldFault;
+use rcm::Framed;
+use rcm::OutcomeRecord;
+use rcm::Place;
+use rcm::RecordFault;
+use rcm::RecordFromField;
+use rcm::limited;
+
+/// Checks the fields of an outcome, in a file with so many states.
+fn check_outcome(outcome: OutcomeRecord, o: u32, known: u32) -> Result<(), FieldFault>
+    requires some_state { ⌜ 1 ≤ known ⌝ }
+    requires placed { ⌜ outcome .byte < 65536 ⌝ }
+    ensures { λ r. ⌜ RecordChecked InOutcome o (outcome .byte) outcome-offset (OutcomeRule version-1 known outcome) (λ _. Unit {0}) r ⌝ }
+{
+    let byte = outcome.byte;
+    limited(
+        u32::from(outcome.state),
+        0,
+        known - 1,
+        Place::InOutcome.fault(o, byte),
+    )?;
+    limited(outcome.weight, 1, 1000, Place::InOutcome.fault(o, byte + 2))
+}
+
+/// Checks the outcomes' section.
+pub fn check_outcomes(file: &Framed) -> Result<(), RecordFault>
+    requires { ⌜ 1 ≤ states (now (now file .bytes)) ⌝ }
+    ensures { λ r. ⌜ Checked version-1 (now (now (file .entry) .bytes)) OutcomeField
+        (λ _. Holds (outcomes (now (now (file .entry) .bytes))) (OutcomesRule version-1 (now (now (file .entry) .bytes)))) r ⌝ }
+{
+    let head = file.head();
+    for o in 0..u32::from(head.outcomes) {
+        check_outcome(file.outcome(o), o, u32::from(head.states))?;
+    }
+    Ok(())
+}

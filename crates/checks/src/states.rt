@@ -1,0 +1,71 @@
+//! The states' section: the check of a state, and of all.
+
+ghost use mathlib.Core.Path.{_≡_};
+ghost use mathlib.Core.Bool.{cond};
+ghost use Prim.Native.Nat.{ℕ, _+_, _<_, _≤_};
+ghost use lib.Dec.{eqb};
+ghost use Rattle.rcm.specs.declared.faults.Place.the-variants.{InState};
+ghost use Rattle.rcm.specs.declared.faults.Cause.the-variants.{StateField};
+ghost use Rattle.rcm.specs.Format.{version-1};
+ghost use Rattle.rcm.specs.Layout.{states, action-count, sum-below};
+ghost use Rattle.rcm.specs.Checks.{StateRule, StatesRule, state-offset, unless-terminal};
+ghost use Rattle.rcm.specs.Checking.{RecordChecked, Checked, Holds};
+use rcm::FieldFault;
+use rcm::Framed;
+use rcm::Place;
+use rcm::RecordFault;
+use rcm::RecordFromField;
+use rcm::StateRecord;
+use rcm::limited;
+
+/// A limit that a terminal state, of kind 1, has at 0.
+fn unless_terminal(kind: u8, most: u32) -> u32
+    ensures { λ r. ⌜ r ≡ unless-terminal kind most ⌝ }
+{
+    if kind == 1 { 0 } else { most }
+}
+
+/// Checks the fields of a state, after so many actions of the states before it.
+fn check_state(state: StateRecord, s: u32, price: u32, before: u32) -> Result<(), FieldFault>
+    requires { ⌜ state .byte < 65536 ⌝ }
+    ensures { λ r. ⌜ RecordChecked InState s (state .byte) state-offset (StateRule version-1 price before state) (λ _. Unit {0}) r ⌝ }
+{
+    let byte = state.byte;
+    limited(u32::from(state.kind), 0, 1, Place::InState.fault(s, byte))?;
+    let estimate_most = unless_terminal(state.kind, price);
+    limited(
+        state.estimate,
+        0,
+        estimate_most,
+        Place::InState.fault(s, byte + 1),
+    )?;
+    limited(
+        u32::from(state.first),
+        before,
+        before,
+        Place::InState.fault(s, byte + 5),
+    )?;
+    let count_most = unless_terminal(state.kind, 16);
+    limited(
+        u32::from(state.count),
+        0,
+        count_most,
+        Place::InState.fault(s, byte + 7),
+    )
+}
+
+/// Checks the states' section. Gives the sum of the states' numbers of actions.
+pub fn check_states(file: &Framed) -> Result<u32, RecordFault>
+    ensures { λ r. ⌜ Checked version-1 (now (now (file .entry) .bytes)) StateField
+        (λ n. (n ≡ sum-below (action-count version-1 (now (now (file .entry) .bytes))) (states (now (now (file .entry) .bytes))))
+        × Holds (states (now (now (file .entry) .bytes))) (StatesRule version-1 (now (now (file .entry) .bytes)))) r ⌝ }
+{
+    let head = file.head();
+    let mut before = 0;
+    for s in 0..u32::from(head.states) {
+        let state = file.state(s);
+        check_state(state, s, head.price, before)?;
+        before += u32::from(state.count);
+    }
+    Ok(before)
+}

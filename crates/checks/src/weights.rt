@@ -1,0 +1,43 @@
+//! The check that the weights of each action's outcomes add up to the total.
+
+ghost use mathlib.Core.Path.{_≡_};
+ghost use Prim.Native.Nat.{ℕ, _+_, _<_, _≤_};
+ghost use Rattle.std.specs.Results.{Cases};
+ghost use Rattle.process.specs.Process.{weights};
+ghost use Rattle.rcm.specs.declared.faults.Cause.the-variants.{Weights};
+ghost use Rattle.rcm.specs.Format.{version-1};
+ghost use Rattle.rcm.specs.Layout.{actions, outcomes, outcomes-of};
+ghost use Rattle.rcm.specs.Checks.{WeightsRule};
+ghost use Rattle.rcm.specs.Checking.{Checked, Holds};
+ghost use Rattle.checks.specs.Filling.{Filled};
+use rcm::ActionRecord;
+use rcm::Cause;
+use rcm::Framed;
+use rcm::RecordFault;
+
+/// The sum of the weights of an action's outcomes.
+fn weights_of(file: &Framed, action: ActionRecord) -> u64
+    requires { ⌜ action .first + action .count ≤ outcomes (now (now file .bytes)) ⌝ }
+    ensures { λ r. ⌜ r ≡ weights (outcomes-of version-1 (now (now (file .entry) .bytes)) action) ⌝ }
+{
+    let first = u32::from(action.first);
+    let mut sum = 0;
+    for k in 0..u32::from(action.count) {
+        sum += u64::from(file.outcome(first + k).weight);
+    }
+    sum
+}
+
+pub fn check_weights(file: &Framed) -> Result<(), RecordFault>
+    requires { ⌜ Filled version-1 (now (now file .bytes)) ⌝ }
+    ensures { λ r. ⌜ Checked version-1 (now (now (file .entry) .bytes)) Weights
+        (λ _. Holds (actions (now (now (file .entry) .bytes))) (WeightsRule version-1 (now (now (file .entry) .bytes)))) r ⌝ }
+{
+    for a in 0..u32::from(file.head().actions) {
+        let action = file.action(a);
+        if weights_of(file, action) != 1000 {
+            return Err(Cause::Weights.fault(a, action.byte));
+        }
+    }
+    Ok(())
+}

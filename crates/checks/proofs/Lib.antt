@@ -2,3 +2,4 @@ pub mod Offsets
 pub mod Sections
 pub mod Estimates
 pub mod Passing
+pub mod Unique

@@ -5,7 +5,7 @@ use mathlib.Core.Bool.{Bool, true, false, cond}
 use Prim.Native.Nat.{ℕ, zero, suc, _+_, _*_, _<_, _≤_}
 use lib.ListN.{length, getD}
 use lib.Dec.{ltb, eqb}
-use Rattle.process.specs.Process.{Process, Action}
+use Rattle.process.specs.Process.{Process, Action, void}
 use Rattle.rcm.specs.declared.records.Head.{Head}
 use Rattle.rcm.specs.declared.records.StateRecord.{StateRecord}
 use Rattle.rcm.specs.declared.records.ActionRecord.{ActionRecord}
@@ -138,3 +138,11 @@ decoded F b = record {
   estimate = λ s. state-told F b s .estimate;
   actions = λ s. actions-of F b (state-told F b s);
 }
+
+abbrev pub some-bytes : List ℕ → Bool
+some-bytes [] = false
+some-bytes (x ∷ xs) = true
+
+-- what a table tells: no bytes tell nothing
+abbrev pub told : Format → List ℕ → Process
+told F b = cond (some-bytes b) (decoded F b) void

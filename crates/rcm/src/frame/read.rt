@@ -3,7 +3,7 @@
 ghost use mathlib.Core.Path.{_≡_};
 ghost use Prim.Native.Nat.{ℕ, _+_, _<_, _≤_};
 ghost use Rattle.rcm.specs.Format.{version-1};
-ghost use Rattle.rcm.specs.Layout.{head-of, state-told, action-told, outcome-told};
+ghost use Rattle.rcm.specs.Layout.{some-bytes, head-of, state-told, action-told, outcome-told};
 use crate::bytes::u16_at;
 use crate::bytes::u32_at;
 use crate::frame::Framed;
@@ -13,6 +13,14 @@ use crate::records::OutcomeRecord;
 use crate::records::StateRecord;
 
 impl Framed<'_> {
+    /// Whether there is a file.
+    pub fn holds_file(&self) -> bool
+        ensures { λ r. ⌜ r ≡ some-bytes (now (now (self .entry) .bytes)) ⌝ }
+    {
+        !self.bytes.is_empty()
+    }
+
+    /// The numbers of the header; zeros of no file.
     pub fn head(&self) -> Head
         ensures { λ r. ⌜ r ≡ head-of (now (now (self .entry) .bytes)) ⌝ }
     {

@@ -16,6 +16,6 @@ check-action-requires c κs =
         arith,
         actions-inside version-1 _ (c .pre .filled) (c .args .s) (c .pre .known),
         ap (λ (r : StateRecord). r .first) state,
-        ap (λ (r : StateRecord). r .count) state
+        ap (λ (r : StateRecord). r .count) state,
       );
     }

@@ -14,6 +14,8 @@ use rcm::Framed;
 use rcm::Place;
 use rcm::RecordFault;
 use rcm::RecordFromField;
+use rcm::format::COST_MOST;
+use rcm::format::OUTCOMES_OF_ACTION_MOST;
 use rcm::limited;
 
 /// Checks the fields of an action, after so many outcomes of the actions before it.
@@ -22,7 +24,7 @@ fn check_action(action: ActionRecord, a: u32, before: u32) -> Result<(), FieldFa
     ensures { λ r. ⌜ RecordChecked InAction a (action .byte) action-offset (ActionRule version-1 before action) (λ _. Unit {0}) r ⌝ }
 {
     let byte = action.byte;
-    limited(action.cost, 1, 1_000_000, Place::InAction.fault(a, byte))?;
+    limited(action.cost, 1, COST_MOST, Place::InAction.fault(a, byte))?;
     limited(
         u32::from(action.first),
         before,
@@ -32,7 +34,7 @@ fn check_action(action: ActionRecord, a: u32, before: u32) -> Result<(), FieldFa
     limited(
         u32::from(action.count),
         1,
-        8,
+        OUTCOMES_OF_ACTION_MOST,
         Place::InAction.fault(a, byte + 6),
     )
 }

@@ -14,6 +14,7 @@ use rcm::ActionRecord;
 use rcm::Cause;
 use rcm::Framed;
 use rcm::RecordFault;
+use rcm::format::TOTAL;
 
 /// The sum of weight times estimate over an action's outcomes.
 fn weighted_estimates(file: &Framed, action: ActionRecord) -> u64
@@ -42,8 +43,8 @@ fn check_action(file: &Framed, s: u32, a: u32) -> Result<(), RecordFault>
         × (Consistent version-1 (now (now (file .entry) .bytes)) s a → ⊥)) ⌝ }
 {
     let action = file.action(a);
-    let least = u64::from(action.cost) * 1000 + weighted_estimates(file, action);
-    if u64::from(file.state(s).estimate) * 1000 > least {
+    let least = u64::from(action.cost) * u64::from(TOTAL) + weighted_estimates(file, action);
+    if u64::from(file.state(s).estimate) * u64::from(TOTAL) > least {
         return Err(Cause::Consistency.fault(a, action.byte));
     }
     Ok(())

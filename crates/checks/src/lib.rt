@@ -47,13 +47,16 @@ fn check_rules(file: &Framed) -> Result<(), RecordFault>
     check_consistency(file)
 }
 
-/// Takes the bytes as a framed file exactly if no check fails; else tells the first fault.
+/// Takes the bytes as a framed file exactly if no check fails. Else tells the first fault, and the file is as it was.
 pub fn check<'a>(file: &mut Framed<'a>, bytes: &'a [u8]) -> Result<(), RecordFault>
     ensures { λ r. ⌜ Cases r
         (λ _. Sound version-1 (now (bytes .entry)) × (now (now (file .exit) .bytes) ≡ now (bytes .entry)))
-        (λ f. FirstFault version-1 (now (bytes .entry)) (f .cause) (f .«record») (f .byte)) ⌝ }
+        (λ f. FirstFault version-1 (now (bytes .entry)) (f .cause) (f .«record») (f .byte) × (now (file .exit) ≡ now (file .entry))) ⌝ }
 {
-    file.open(bytes)?;
-    check_records(file)?;
-    check_rules(file)
+    let mut opened = Framed::nothing();
+    opened.open(bytes)?;
+    check_records(&opened)?;
+    check_rules(&opened)?;
+    *file = opened;
+    Ok(())
 }

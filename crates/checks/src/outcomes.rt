@@ -14,6 +14,7 @@ use rcm::OutcomeRecord;
 use rcm::Place;
 use rcm::RecordFault;
 use rcm::RecordFromField;
+use rcm::format::TOTAL;
 use rcm::limited;
 
 /// Checks the fields of an outcome, in a file with so many states.
@@ -29,7 +30,12 @@ fn check_outcome(outcome: OutcomeRecord, o: u32, known: u32) -> Result<(), Field
         known - 1,
         Place::InOutcome.fault(o, byte),
     )?;
-    limited(outcome.weight, 1, 1000, Place::InOutcome.fault(o, byte + 2))
+    limited(
+        outcome.weight,
+        1,
+        TOTAL,
+        Place::InOutcome.fault(o, byte + 2),
+    )
 }
 
 /// Checks the outcomes' section.

@@ -1,9 +1,7 @@
 //! The states' section: the check of a state, and of all.
 
 ghost use mathlib.Core.Path.{_≡_};
-ghost use mathlib.Core.Bool.{cond};
 ghost use Prim.Native.Nat.{ℕ, _+_, _<_, _≤_};
-ghost use lib.Dec.{eqb};
 ghost use Rattle.rcm.specs.declared.faults.Place.the-variants.{InState};
 ghost use Rattle.rcm.specs.declared.faults.Cause.the-variants.{StateField};
 ghost use Rattle.rcm.specs.Format.{version-1};
@@ -16,13 +14,14 @@ use rcm::Place;
 use rcm::RecordFault;
 use rcm::RecordFromField;
 use rcm::StateRecord;
+use rcm::format::ACTIONS_OF_STATE_MOST;
 use rcm::limited;
 
-/// A limit that a terminal state, of kind 1, has at 0.
-fn unless_terminal(kind: u8, most: u32) -> u32
-    ensures { λ r. ⌜ r ≡ unless-terminal kind most ⌝ }
+/// A limit that is 0 for a terminal state.
+fn unless_terminal(state: StateRecord, most: u32) -> u32
+    ensures { λ r. ⌜ r ≡ unless-terminal state most ⌝ }
 {
-    if kind == 1 { 0 } else { most }
+    if state.is_terminal() { 0 } else { most }
 }
 
 /// Checks the fields of a state, after so many actions of the states before it.
@@ -32,7 +31,7 @@ fn check_state(state: StateRecord, s: u32, price: u32, before: u32) -> Result<()
 {
     let byte = state.byte;
     limited(u32::from(state.kind), 0, 1, Place::InState.fault(s, byte))?;
-    let estimate_most = unless_terminal(state.kind, price);
+    let estimate_most = unless_terminal(state, price);
     limited(
         state.estimate,
         0,
@@ -45,7 +44,7 @@ fn check_state(state: StateRecord, s: u32, price: u32, before: u32) -> Result<()
         before,
         Place::InState.fault(s, byte + 5),
     )?;
-    let count_most = unless_terminal(state.kind, 16);
+    let count_most = unless_terminal(state, ACTIONS_OF_STATE_MOST);
     limited(
         u32::from(state.count),
         0,

@@ -14,6 +14,7 @@ use rcm::ActionRecord;
 use rcm::Cause;
 use rcm::Framed;
 use rcm::RecordFault;
+use rcm::format::TOTAL;
 
 /// The sum of the weights of an action's outcomes.
 fn weights_of(file: &Framed, action: ActionRecord) -> u64
@@ -35,7 +36,7 @@ pub fn check_weights(file: &Framed) -> Result<(), RecordFault>
 {
     for a in 0..u32::from(file.head().actions) {
         let action = file.action(a);
-        if weights_of(file, action) != 1000 {
+        if weights_of(file, action) != u64::from(TOTAL) {
             return Err(Cause::Weights.fault(a, action.byte));
         }
     }

@@ -15,7 +15,7 @@ use Rattle.rcm.specs.declared.records.ActionRecord.{ActionRecord}
 use Rattle.rcm.specs.declared.records.OutcomeRecord.{OutcomeRecord}
 use Rattle.rcm.specs.Faults.{number}
 use Rattle.rcm.specs.Format.{Format, u16-at}
-use Rattle.rcm.specs.Layout.{head-of, states, actions, outcomes, price, state-byte, action-byte, outcome-byte, sections-end, state-record, action-record, outcome-record, estimate, action-count, outcome-count, outcomes-of, sum-below}
+use Rattle.rcm.specs.Layout.{head-of, is-terminal, states, actions, outcomes, price, state-byte, action-byte, outcome-byte, sections-end, state-record, action-record, outcome-record, estimate, action-count, outcome-count, outcomes-of, sum-below}
 
 abbrev pub Within : ℕ → ℕ → ℕ → Type 0
 Within low high value = (low ≤ value) × (value ≤ high)
@@ -105,15 +105,15 @@ abbrev pub SectionsRule : Format → List ℕ → Whole → Type 0
 SectionsRule F b _ = length b ≡ sections-end F b
 
 -- a limit that is 0 for a terminal state
-abbrev pub unless-terminal : ℕ → ℕ → ℕ
-unless-terminal kind most = cond (eqb kind 1) 0 most
+abbrev pub unless-terminal : StateRecord → ℕ → ℕ
+unless-terminal r most = cond (is-terminal r) 0 most
 
 -- a state's record, in a file with this price, after so many actions of the states before it
 abbrev pub StateRule : Format → ℕ → ℕ → StateRecord → StatePart → Type 0
 StateRule F p before r Kind = r .kind ≤ 1
-StateRule F p before r Estimate = r .estimate ≤ unless-terminal (r .kind) p
+StateRule F p before r Estimate = r .estimate ≤ unless-terminal r p
 StateRule F p before r FirstAction = r .first ≡ before
-StateRule F p before r ActionCount = r .count ≤ unless-terminal (r .kind) (F .actions-of-state-most)
+StateRule F p before r ActionCount = r .count ≤ unless-terminal r (F .actions-of-state-most)
 
 -- an action's record, after so many outcomes of the actions before it
 abbrev pub ActionRule : Format → ℕ → ActionRecord → ActionPart → Type 0

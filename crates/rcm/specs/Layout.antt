@@ -32,19 +32,28 @@ price b = u32-at b 13
 abbrev pub head-of : List ℕ → Head
 head-of b = record { states = states b; start = start b; actions = actions b; outcomes = outcomes b; price = price b }
 
--- ## The sections: each stands where the one before it ends
+-- ## The sections: each begins where the one before it ends
+
+abbrev pub actions-byte : Format → Head → ℕ
+actions-byte F h = F .header-width + F .state-width * h .states
+
+abbrev pub outcomes-byte : Format → Head → ℕ
+outcomes-byte F h = actions-byte F h + F .action-width * h .actions
+
+abbrev pub end-byte : Format → Head → ℕ
+end-byte F h = outcomes-byte F h + F .outcome-width * h .outcomes
 
 abbrev pub state-byte : Format → ℕ → ℕ
 state-byte F s = F .header-width + F .state-width * s
 
 abbrev pub action-byte : Format → List ℕ → ℕ → ℕ
-action-byte F b a = state-byte F (states b) + F .action-width * a
+action-byte F b a = actions-byte F (head-of b) + F .action-width * a
 
 abbrev pub outcome-byte : Format → List ℕ → ℕ → ℕ
-outcome-byte F b o = action-byte F b (actions b) + F .outcome-width * o
+outcome-byte F b o = outcomes-byte F (head-of b) + F .outcome-width * o
 
 abbrev pub sections-end : Format → List ℕ → ℕ
-sections-end F b = outcome-byte F b (outcomes b)
+sections-end F b = end-byte F (head-of b)
 
 -- ## The records
 
@@ -71,6 +80,10 @@ outcome-record F b o = record {
   state = u16-at b (outcome-byte F b o);
   weight = F .weight-at b (outcome-byte F b o + 2);
 }
+
+-- kind 1 is terminal; the other kind, 0, is open
+abbrev pub is-terminal : StateRecord → Bool
+is-terminal r = eqb (r .kind) 1
 
 abbrev pub no-state : StateRecord
 no-state = record { byte = 0; kind = 0; estimate = 0; first = 0; count = 0 }
@@ -134,7 +147,7 @@ decoded F b = record {
   start = start b;
   price = price b;
   total = F .total;
-  terminal = λ s. eqb (state-told F b s .kind) 1;
+  terminal = λ s. is-terminal (state-told F b s);
   estimate = λ s. state-told F b s .estimate;
   actions = λ s. actions-of F b (state-told F b s);
 }

@@ -9,7 +9,7 @@ pub fn u16_at(bytes: &[u8], i: usize) -> u16
     requires { ⌜ i + 1 < length (now bytes) ⌝ }
     ensures { λ r. ⌜ r ≡ u16-at (now (bytes .entry)) i ⌝ }
 {
-    u16::from(bytes[i]) * 256 + u16::from(bytes[i + 1])
+    u16::from_be_bytes([bytes[i], bytes[i + 1]])
 }
 
 pub fn u32_at(bytes: &[u8], i: usize) -> u32

@@ -30,7 +30,7 @@ pub enum Layer {
 }
 
 /// Where a field stands.
-#[derive(Clone, Copy, PartialEq, Eq, Debug)]
+#[derive(Clone, Copy)]
 pub enum Place {
     InHeader,
     InState,
@@ -39,7 +39,7 @@ pub enum Place {
 }
 
 /// A field is outside its limits.
-#[derive(Clone, Copy, PartialEq, Eq, Debug)]
+#[derive(Clone, Copy)]
 pub struct FieldFault {
     pub place: Place,
     pub record: u32,

@@ -4,6 +4,7 @@
 mod bytes;
 pub mod faults;
 mod fields;
+pub mod format;
 pub mod frame;
 pub mod records;
 

@@ -1,5 +1,15 @@
 //! The header and the records of a table file, as their numbers. A record also knows its first byte.
 
+ghost use mathlib.Core.Path.{_≡_};
+ghost use Prim.Native.Nat.{ℕ};
+ghost use Rattle.rcm.specs.Format.{version-1};
+ghost use Rattle.rcm.specs.Layout.{is-terminal, actions-byte, outcomes-byte, end-byte};
+use crate::format::ACTION_WIDTH;
+use crate::format::HEADER_WIDTH;
+use crate::format::KIND_TERMINAL;
+use crate::format::OUTCOME_WIDTH;
+use crate::format::STATE_WIDTH;
+
 #[derive(Clone, Copy)]
 pub struct Head {
     pub states: u16,
@@ -18,6 +28,27 @@ impl Head {
         outcomes: 0,
         price: 0,
     };
+
+    /// Where the actions' section begins.
+    pub fn actions_byte(self) -> u32
+        ensures { λ r. ⌜ r ≡ actions-byte version-1 self ⌝ }
+    {
+        HEADER_WIDTH + STATE_WIDTH * u32::from(self.states)
+    }
+
+    /// Where the outcomes' section begins.
+    pub fn outcomes_byte(self) -> u32
+        ensures { λ r. ⌜ r ≡ outcomes-byte version-1 self ⌝ }
+    {
+        self.actions_byte() + ACTION_WIDTH * u32::from(self.actions)
+    }
+
+    /// Where the outcomes' section, and with it the file, ends.
+    pub fn end_byte(self) -> u32
+        ensures { λ r. ⌜ r ≡ end-byte version-1 self ⌝ }
+    {
+        self.outcomes_byte() + OUTCOME_WIDTH * u32::from(self.outcomes)
+    }
 }
 
 /// A state: its kind (0 open, 1 terminal), its estimate, and its actions: the first and how many.
@@ -56,6 +87,12 @@ impl StateRecord {
         first: 0,
         count: 0,
     };
+
+    pub fn is_terminal(self) -> bool
+        ensures { λ r. ⌜ r ≡ is-terminal self ⌝ }
+    {
+        self.kind == KIND_TERMINAL
+    }
 }
 
 impl ActionRecord {

@@ -19,13 +19,20 @@ use crate::faults::Place;
 use crate::faults::RecordFault;
 use crate::faults::RecordFromField;
 use crate::fields::limited;
+use crate::format::ACTIONS_MOST;
+use crate::format::BYTES_MOST;
+use crate::format::HEADER_WIDTH;
+use crate::format::OUTCOMES_MOST;
+use crate::format::PRICE_MOST;
+use crate::format::STATES_MOST;
+use crate::format::VERSION;
 use crate::frame::Framed;
 use crate::records::Head;
 
 fn check_length(bytes: &[u8]) -> Result<(), RecordFault>
     ensures { λ r. ⌜ Checked version-1 (now (bytes .entry)) Length (λ _. LengthRule version-1 (now (bytes .entry)) whole) r ⌝ }
 {
-    if bytes.len() < 17 || bytes.len() > 65536 {
+    if bytes.len() < HEADER_WIDTH as usize || bytes.len() > BYTES_MOST {
         return Err(Cause::Length.fault(0, 0));
     }
     Ok(())
@@ -58,7 +65,7 @@ fn check_opening(bytes: &[u8]) -> Result<Head, RecordFault>
     let [b'R', b'C', b'M', high, low, rest @ ..] = bytes else {
         return Err(Cause::Opening.fault(0, 0));
     };
-    if *high != 0 || *low != 1 {
+    if u16::from_be_bytes([*high, *low]) != VERSION {
         return Err(Cause::Opening.fault(0, 3));
     }
     Ok(read_head(rest))
@@ -70,33 +77,29 @@ fn check_header(head: Head) -> Result<(), FieldFault>
 {
     let states = u32::from(head.states);
     let actions = u32::from(head.actions);
-    let outcomes_most = if actions == 0 { 0 } else { 6000 };
-    limited(states, 1, 1024, Place::InHeader.fault(0, 5))?;
+    let outcomes_most = if actions == 0 { 0 } else { OUTCOMES_MOST };
+    limited(states, 1, STATES_MOST, Place::InHeader.fault(0, 5))?;
     limited(
         u32::from(head.start),
         0,
         states - 1,
         Place::InHeader.fault(0, 7),
     )?;
-    limited(actions, 0, 2048, Place::InHeader.fault(0, 9))?;
+    limited(actions, 0, ACTIONS_MOST, Place::InHeader.fault(0, 9))?;
     limited(
         u32::from(head.outcomes),
         0,
         outcomes_most,
         Place::InHeader.fault(0, 11),
     )?;
-    limited(head.price, 1, 1_000_000_000, Place::InHeader.fault(0, 13))
+    limited(head.price, 1, PRICE_MOST, Place::InHeader.fault(0, 13))
 }
 
 fn check_sections(bytes: &[u8], head: Head) -> Result<(), RecordFault>
     requires { ⌜ head ≡ head-of (now bytes) ⌝ }
     ensures { λ r. ⌜ Checked version-1 (now (bytes .entry)) Sections (λ _. SectionsRule version-1 (now (bytes .entry)) whole) r ⌝ }
 {
-    let end = 17
-        + 8 * usize::from(head.states)
-        + 7 * usize::from(head.actions)
-        + 4 * usize::from(head.outcomes);
-    if bytes.len() != end {
+    if bytes.len() != head.end_byte() as usize {
         return Err(Cause::Sections.fault(0, 0));
     }
     Ok(())

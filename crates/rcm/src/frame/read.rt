@@ -6,6 +6,10 @@ ghost use Rattle.rcm.specs.Format.{version-1};
 ghost use Rattle.rcm.specs.Layout.{some-bytes, head-of, state-told, action-told, outcome-told};
 use crate::bytes::u16_at;
 use crate::bytes::u32_at;
+use crate::format::ACTION_WIDTH;
+use crate::format::HEADER_WIDTH;
+use crate::format::OUTCOME_WIDTH;
+use crate::format::STATE_WIDTH;
 use crate::frame::Framed;
 use crate::records::ActionRecord;
 use crate::records::Head;
@@ -34,7 +38,7 @@ impl Framed<'_> {
         if s >= u32::from(self.head.states) {
             return StateRecord::NONE;
         }
-        let byte = 17 + 8 * s;
+        let byte = HEADER_WIDTH + STATE_WIDTH * s;
         let at = byte as usize;
         StateRecord {
             byte,
@@ -52,7 +56,7 @@ impl Framed<'_> {
         if a >= u32::from(self.head.actions) {
             return ActionRecord::NONE;
         }
-        let byte = 17 + 8 * u32::from(self.head.states) + 7 * a;
+        let byte = self.head.actions_byte() + ACTION_WIDTH * a;
         let at = byte as usize;
         ActionRecord {
             byte,
@@ -69,7 +73,7 @@ impl Framed<'_> {
         if o >= u32::from(self.head.outcomes) {
             return OutcomeRecord::NONE;
         }
-        let byte = 17 + 8 * u32::from(self.head.states) + 7 * u32::from(self.head.actions) + 4 * o;
+        let byte = self.head.outcomes_byte() + OUTCOME_WIDTH * o;
         let at = byte as usize;
         OutcomeRecord {
             byte,

@@ -10,7 +10,7 @@ use lib.Dec.{ltb, eqb}
 use lib.ListN.{length, getD}
 use Rattle.process.specs.Process.{Process, Action, action-at, no-action, outcome-at, Told}
 use Rattle.rcm.specs.Format.{Format, Proper, version-1, u16-at, u32-at}
-use Rattle.rcm.specs.Layout.{head-of, states, actions, outcomes, state-told, action-told, outcome-told, state-record, action, actions-of, action-of, outcome, decoded, told, some-bytes}
+use Rattle.rcm.specs.Layout.{head-of, is-terminal, states, actions, outcomes, state-told, action-told, outcome-told, state-record, action, actions-of, action-of, outcome, decoded, told, some-bytes}
 use Rattle.rcm.specs.Checks.{Sound}
 use Rattle.rcm.specs.Laws.Runs.{run-length, run-at, run-past, run-none}
 use Rattle.rcm.specs.Laws.Told.{state-here, action-here}
@@ -43,7 +43,7 @@ module _ (F : Format) where
   price-told [] = refl
   price-told (x ∷ xs) = refl
 
-  pub terminal-told : (b : List ℕ) (s : ℕ) → told F b .terminal s ≡ eqb (state-told F b s .kind) 1
+  pub terminal-told : (b : List ℕ) (s : ℕ) → told F b .terminal s ≡ is-terminal (state-told F b s)
   terminal-told [] s = let e = none-told s in rw e
   terminal-told (x ∷ xs) s = refl
 

@@ -33,7 +33,7 @@ impl<'a> Table<'a> {
             × (now (self .exit) ≡ now (self .entry))) ⌝ }
         ensures one_first_fault { λ _. ⌜ OneFirstFault version-1 ⌝ }
     {
-        let mut file = Framed::nothing();
+        let mut file = self.file;
         check(&mut file, bytes)?;
         *self = Table { file };
         Ok(())

@@ -10,6 +10,7 @@ ghost use Rattle.table.specs.Laws.Telling.{table-told};
 use crate::table::Table;
 use process::Model;
 use rcm::ActionRecord;
+use rcm::format::TOTAL;
 
 pub impl Model for Table<'_> as TableModel {
     ghost process = { λ t. told version-1 (now (t .file .bytes)) };
@@ -35,11 +36,11 @@ pub impl Model for Table<'_> as TableModel {
     }
 
     fn total(&self) -> u32 {
-        if self.file.holds_file() { 1000 } else { 0 }
+        if self.file.holds_file() { TOTAL } else { 0 }
     }
 
     fn terminal(&self, s: u32) -> bool {
-        self.file.state(s).kind == 1
+        self.file.state(s).is_terminal()
     }
 
     fn estimate(&self, s: u32) -> u32 {

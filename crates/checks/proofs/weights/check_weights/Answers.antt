@@ -25,8 +25,8 @@ weights-of-requires c κs =
     let here = known b _ (c .loop-a .a) _ (c .head .ensures) (c .from-a-end .ensures) (c .loop-a-test .taken) in
     simp (c .action-action .ensures ∙ action-here version-1 b _ here) (outcomes-inside version-1 b (c .pre) (c .loop-a .a) here)
 
-pub returns-then-weights-of-ne1000 : need.returns-then-weights-of-ne1000
-returns-then-weights-of-ne1000 c =
+pub returns-then-weights-of-from : need.returns-then-weights-of-from
+returns-then-weights-of-from c =
     let b = c .args .file .now .bytes .now in
     let a = c .loop-a .a in
     let here = known b _ a _ (c .head .ensures) (c .from-a-end .ensures) (c .loop-a-test .taken) in
@@ -34,7 +34,7 @@ returns-then-weights-of-ne1000 c =
     let sum = c .weights-of .ensures ∙ ap (λ (r : ActionRecord). weights (outcomes-of version-1 b r)) action in
     let first = first-broken (actions b) (action-byte version-1 b) whole-offset (WeightsRule version-1 b) (λ r r′ p h. omega arith)
     a (action-byte version-1 b a) here (c .loop-a .inv)
-    (record { part = whole; here = omega arith; broken = λ rule. c .if-weights-of-ne1000 .taken (sum ∙ rule); before = λ p h. absurd (omega arith) }) in
+    (record { part = whole; here = omega arith; broken = λ rule. c .if-weights-of-from .taken (sum ∙ rule ∙ sym (c .from .ensures)); before = λ p h. absurd (omega arith) }) in
     simp (c .fault .ensures, ap (λ (r : ActionRecord). r .byte) action) (refl, record { fails = first .0; none-before = first .1 })
 
 pub loop-a-again : need.loop-a-again
@@ -43,7 +43,7 @@ loop-a-again c =
     let here = known b _ (c .loop-a .a) _ (c .head .ensures) (c .from-a-end .ensures) (c .loop-a-test .taken) in
     let action = c .action-action .ensures ∙ action-here version-1 b _ here in
     let sum = c .weights-of .ensures ∙ ap (λ (r : ActionRecord). weights (outcomes-of version-1 b r)) action in
-    below-more _ _ (c .loop-a .inv) (λ p. sym sum ∙ c .if-weights-of-ne1000 .left)
+    below-more _ _ (c .loop-a .inv) (λ p. sym sum ∙ c .if-weights-of-from .left ∙ c .from .ensures)
 
 pub returns : need.returns
 returns c = λ r h p. c .loop-a .inv r (omega (arith, ap (λ (h : Head). h .actions) (c .head .ensures))) p

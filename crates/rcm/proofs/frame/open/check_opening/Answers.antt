@@ -13,9 +13,9 @@ use Rattle.rcm.specs.Checks.{OpeningPart, Mark, Version}
 use Rattle.rcm.proofs.Numbers.{u16-drop, u32-drop}
 use Rattle.rcm.proofs.frame.open.check_opening.Needs as need
 
-pub returns-then-high-ne0 : need.returns-then-high-ne0
+pub returns-then-from-be-bytes-ne-VERSION : need.returns-then-from-be-bytes-ne-VERSION
 unfolding u16-at
-returns-then-high-ne0 c = search needs
+returns-then-from-be-bytes-ne-VERSION c = search needs
 
 pub returns : need.returns
 unfolding u16-at

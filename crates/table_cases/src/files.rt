@@ -1,0 +1,38 @@
+//! Two small files that load, a record to a line.
+
+/// A file, with the numbers of its states and actions.
+#[derive(Clone, Copy)]
+pub struct Base {
+    pub bytes: &'static [u8],
+    pub states: u16,
+    pub actions: u16,
+}
+
+/// An open state, whose action leads to the ending or back, by halves.
+pub const EXAMPLE: Base = Base {
+    bytes: b"RCM\x00\x01\x00\x02\x00\x00\x00\x01\x00\x02\x00\x00\x00\x64\
+        \x00\x00\x00\x00\x00\x00\x00\x01\
+        \x01\x00\x00\x00\x00\x00\x01\x00\
+        \x00\x00\x00\x0a\x00\x00\x02\
+        \x00\x01\x01\xf4\
+        \x00\x00\x01\xf4",
+    states: 2,
+    actions: 1,
+};
+
+/// Two open states with two actions and one, and an ending.
+pub const FORK: Base = Base {
+    bytes: b"RCM\x00\x01\x00\x03\x00\x01\x00\x03\x00\x04\x00\x00\x03\xe8\
+        \x00\x00\x00\x00\x00\x00\x00\x02\
+        \x00\x00\x00\x00\x00\x00\x02\x01\
+        \x01\x00\x00\x00\x00\x00\x03\x00\
+        \x00\x00\x00\x0a\x00\x00\x01\
+        \x00\x00\x00\x14\x00\x01\x02\
+        \x00\x00\x00\x1e\x00\x03\x01\
+        \x00\x02\x03\xe8\
+        \x00\x02\x01\x90\
+        \x00\x01\x02\x58\
+        \x00\x02\x03\xe8",
+    states: 3,
+    actions: 3,
+};

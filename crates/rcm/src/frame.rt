@@ -15,7 +15,7 @@ use crate::records::Head;
 #[derive(Clone, Copy)]
 pub struct Framed<'a> {
     bytes: &'a [u8],
-    head: Head,
+    header: Head,
     ghost framed: { Frame version-1 (now bytes) },
-    ghost headed: { head ≡ head-of (now bytes) },
+    ghost headed: { header ≡ head-of (now bytes) },
 }

@@ -7,10 +7,12 @@ ghost use lib.ListN.{length};
 ghost use Rattle.std.specs.Results.{Cases};
 ghost use Rattle.rcm.specs.declared.faults.Place.the-variants.{InHeader};
 ghost use Rattle.rcm.specs.declared.faults.Cause.the-variants.{Length, Opening, Sections};
+ghost use Rattle.rcm.specs.declared.faults.Layer.the-variants.{File};
+ghost use Rattle.rcm.specs.Faults.{layer as layer-of};
 ghost use Rattle.rcm.specs.Format.{version-1, u16-at, u32-at};
 ghost use Rattle.rcm.specs.Layout.{head-of};
 ghost use Rattle.rcm.specs.Checks.{FirstFault, whole, LengthRule, SectionsRule, OpeningPart, OpeningRule, HeaderRule, header-offset};
-ghost use Rattle.rcm.specs.Checking.{RecordChecked, Checked, Tried, Passed, WellFramed};
+ghost use Rattle.rcm.specs.Checking.{RecordChecked, Checked, Passed, WellFramed};
 use crate::bytes::u16_at;
 use crate::bytes::u32_at;
 use crate::faults::Cause;
@@ -107,8 +109,9 @@ fn check_sections(bytes: &[u8], head: Head) -> Result<(), RecordFault>
 
 /// The checks of the file as a whole, in their order. Gives the header.
 fn check_frame(bytes: &[u8]) -> Result<Head, RecordFault>
-    ensures { λ r. ⌜ Tried version-1 (now (bytes .entry))
-        (λ h. (h ≡ head-of (now (bytes .entry))) × WellFramed version-1 (now (bytes .entry)) × Passed version-1 (now (bytes .entry)) 5) r ⌝ }
+    ensures { λ r. ⌜ Cases r
+        (λ h. (h ≡ head-of (now (bytes .entry))) × WellFramed version-1 (now (bytes .entry)) × Passed version-1 (now (bytes .entry)) 5)
+        (λ f. (layer-of (f .cause) ≡ File) × FirstFault version-1 (now (bytes .entry)) (f .cause) (f .«record») (f .byte)) ⌝ }
 {
     check_length(bytes)?;
     let head = check_opening(bytes)?;
@@ -124,7 +127,7 @@ impl<'a> Framed<'a> {
     {
         Framed {
             bytes: &[],
-            head: Head::NONE,
+            header: Head::NONE,
         }
     }
 
@@ -132,10 +135,10 @@ impl<'a> Framed<'a> {
     pub fn open(&mut self, bytes: &'a [u8]) -> Result<(), RecordFault>
         ensures { λ r. ⌜ Cases r
             (λ _. (now (now (self .exit) .bytes) ≡ now (bytes .entry)) × Passed version-1 (now (bytes .entry)) 5)
-            (λ f. FirstFault version-1 (now (bytes .entry)) (f .cause) (f .«record») (f .byte) × (now (self .exit) ≡ now (self .entry))) ⌝ }
+            (λ f. (layer-of (f .cause) ≡ File) × FirstFault version-1 (now (bytes .entry)) (f .cause) (f .«record») (f .byte) × (now (self .exit) ≡ now (self .entry))) ⌝ }
     {
-        let head = check_frame(bytes)?;
-        *self = Framed { bytes, head };
+        let header = check_frame(bytes)?;
+        *self = Framed { bytes, header };
         Ok(())
     }
 }

@@ -28,14 +28,14 @@ impl Framed<'_> {
     pub fn head(&self) -> Head
         ensures { λ r. ⌜ r ≡ head-of (now (now (self .entry) .bytes)) ⌝ }
     {
-        self.head
+        self.header
     }
 
     /// A state's record; zeros for a state that the file lacks.
     pub fn state(&self, s: u32) -> StateRecord
         ensures { λ r. ⌜ r ≡ state-told version-1 (now (now (self .entry) .bytes)) s ⌝ }
     {
-        if s >= u32::from(self.head.states) {
+        if s >= u32::from(self.head().states) {
             return StateRecord::NONE;
         }
         let byte = HEADER_WIDTH + STATE_WIDTH * s;
@@ -53,10 +53,10 @@ impl Framed<'_> {
     pub fn action(&self, a: u32) -> ActionRecord
         ensures { λ r. ⌜ r ≡ action-told version-1 (now (now (self .entry) .bytes)) a ⌝ }
     {
-        if a >= u32::from(self.head.actions) {
+        if a >= u32::from(self.head().actions) {
             return ActionRecord::NONE;
         }
-        let byte = self.head.actions_byte() + ACTION_WIDTH * a;
+        let byte = self.head().actions_byte() + ACTION_WIDTH * a;
         let at = byte as usize;
         ActionRecord {
             byte,
@@ -70,10 +70,10 @@ impl Framed<'_> {
     pub fn outcome(&self, o: u32) -> OutcomeRecord
         ensures { λ r. ⌜ r ≡ outcome-told version-1 (now (now (self .entry) .bytes)) o ⌝ }
     {
-        if o >= u32::from(self.head.outcomes) {
+        if o >= u32::from(self.head().outcomes) {
             return OutcomeRecord::NONE;
         }
-        let byte = self.head.outcomes_byte() + OUTCOME_WIDTH * o;
+        let byte = self.head().outcomes_byte() + OUTCOME_WIDTH * o;
         let at = byte as usize;
         OutcomeRecord {
             byte,

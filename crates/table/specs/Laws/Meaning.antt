@@ -9,7 +9,7 @@ use lib.ListN.{length}
 use Rattle.process.specs.Process.{Process, Action, Each, weights, weighted, ActionInOrder, TerminalInOrder, OpenInOrder, InOrder}
 use Rattle.rcm.specs.declared.records.StateRecord.{StateRecord}
 use Rattle.rcm.specs.Format.{Format, Proper}
-use Rattle.rcm.specs.Layout.{states, actions, outcomes, state-record, action-record, state-told, estimate, action, actions-of, outcome, outcomes-of, decoded, run}
+use Rattle.rcm.specs.Layout.{is-terminal, states, actions, outcomes, state-record, action-record, state-told, estimate, action, actions-of, outcome, outcomes-of, decoded, run}
 use Rattle.rcm.specs.Checks.{Sound, whole, Estimate, ActionCount, Cost, OutcomeCount, Target, Weight, Has}
 use Rattle.rcm.specs.Laws.Rules.{cond-most}
 use Rattle.rcm.specs.Laws.Runs.{run-length, run-none, each-run}
@@ -70,7 +70,7 @@ module _ (F : Format) (b : List ℕ) (sound : Sound F b) where
       let same = ap (actions-of F b) (state-here F b s known) in
       let first = state-record F b s .first in
       let count = state-record F b s .count in
-      let few : count ≤ F .actions-of-state-most = cond-most _ _ _ (filled .states-hold s known ActionCount) in
+      let few : count ≤ F .actions-of-state-most = cond-most (is-terminal (state-record F b s)) (F .actions-of-state-most) count (filled .states-hold s known ActionCount) in
       let each : Each (ActionInOrder told s) (actions-of F b (state-record F b s)) =
       each-run (action F b) (ActionInOrder told s) first count (λ a low high. action-in-order proper s known a (low, high)) in
       record {

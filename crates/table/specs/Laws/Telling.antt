@@ -79,9 +79,13 @@ pub some-from-state : (b : List ℕ) (s : ℕ) → s < states b → some-bytes b
 some-from-state [] s h = absurd (omega (arith, none-states))
 some-from-state (x ∷ xs) s h = refl
 
--- a file that keeps the layout is told as it is decoded
-pub sound-told : (F : Format) (b : List ℕ) → Sound F b → told F b ≡ decoded F b
-sound-told F b sound = let e = some-from-state b 0 (sound-filled F b sound .framed .some-state) in rw e
+module _ (F : Format) (b : List ℕ) (sound : Sound F b) where
+  -- a file that keeps the layout is not empty, and is told as it is decoded
+  pub sound-some : some-bytes b ≡ true
+  sound-some = some-from-state b 0 (sound-filled F b sound .framed .some-state)
+
+  pub sound-told : told F b ≡ decoded F b
+  sound-told = let e = sound-some in rw e
 
 module _ (F : Format) (b : List ℕ) (s a : ℕ) where
   -- an action past those of the state

@@ -2,6 +2,7 @@
 use mathlib.Core.Path.{_≡_}
 use Prim.Native.Nat.{ℕ, _+_, _*_, _<_, _≤_}
 use native.Mathlib.Decide.{decLt}
+use native.Mathlib.Nat.{mul-le-mul-left, mul-suc}
 use native.Mathlib.Omega.{arith}
 use lib.Dec.{lit<}
 use Rattle.rcm.specs.Checks.{StatePart, Kind, Estimate, FirstAction, ActionCount, state-offset, ActionPart, Cost, FirstOutcome, OutcomeCount, action-offset, OutcomePart, Target, Weight, outcome-offset}
@@ -15,11 +16,13 @@ action-offset-low = elim [ Cost ↦ lit< tt | FirstOutcome ↦ lit< tt | Outcome
 pub outcome-offset-low : (p : OutcomePart) → outcome-offset p < 4
 outcome-offset-low = elim [ Target ↦ lit< tt | Weight ↦ lit< tt ]
 
-pub same-record : (base width r r′ o o′ k : ℕ) →
-    ((n m : ℕ) → n < m → width * n + width ≤ width * m) →
-    o < width → o′ < width → k ≡ base + width * r + o → k ≡ base + width * r′ + o′ → r ≡ r′
-same-record base width r r′ o o′ k grows low low′ e e′ =
+-- a record ends before a later one begins
+pub grows : (width n m : ℕ) → n < m → width * n + width ≤ width * m
+grows width n m h = omega (arith, mul-le-mul-left width h, mul-suc width n)
+
+pub same-record : (base width r r′ o o′ k : ℕ) → o < width → o′ < width → k ≡ base + width * r + o → k ≡ base + width * r′ + o′ → r ≡ r′
+same-record base width r r′ o o′ k low low′ e e′ =
     elim (decLt r r′) [
-      | yes h ↦ absurd (omega (arith, grows r r′ h))
-      | no h ↦ elim (decLt r′ r) [ yes h′ ↦ absurd (omega (arith, grows r′ r h′)) | no h′ ↦ omega arith ]
+      | yes h ↦ absurd (omega (arith, grows width r r′ h))
+      | no h ↦ elim (decLt r′ r) [ yes h′ ↦ absurd (omega (arith, grows width r′ r h′)) | no h′ ↦ omega arith ]
     ]

@@ -8,33 +8,42 @@ use native.Mathlib.Omega.{arith}
 use Rattle.rcm.specs.declared.faults.Cause.{Cause}
 use Rattle.rcm.specs.declared.faults.Cause.the-variants.{Length, Opening, Header, Sections, StateField, ActionField, OutcomeField, Counts, Weights, Consistency}
 use Rattle.rcm.specs.Faults.{number}
-use Rattle.rcm.specs.Format.{version-1}
-use Rattle.rcm.specs.Layout.{states, actions, outcomes, state-byte, action-byte, outcome-byte}
+use Rattle.rcm.specs.Format.{Format, Proper}
+use Rattle.rcm.specs.Layout.{head-of, states, actions-byte, outcomes-byte, action-byte}
 use Rattle.rcm.specs.Checks.{Fails, FirstFault, OneFirstFault}
 use Rattle.rcm.proofs.Order.{same-cause}
-use Rattle.checks.proofs.Offsets.{state-offset-low, action-offset-low, outcome-offset-low, same-record}
+use Rattle.checks.proofs.Offsets.{state-offset-low, action-offset-low, outcome-offset-low, grows, same-record}
 
-module _ (b : List ℕ) (r r′ k : ℕ) where
-  record-of : (c : Cause) → Fails version-1 b c r k → Fails version-1 b c r′ k → r ≡ r′
+module _ (F : Format) (proper : Proper F) (b : List ℕ) (r r′ k : ℕ) where
+  -- an action's record begins at one byte only
+  same-action : k ≡ action-byte F b r + 0 → k ≡ action-byte F b r′ + 0 → r ≡ r′
+  same-action e e′ =
+      let room = proper .action-room in
+      same-record (actions-byte F (head-of b)) (F .action-width) r r′ 0 0 k (omega arith) (omega arith) e e′
+
+  record-of : (c : Cause) → Fails F b c r k → Fails F b c r′ k → r ≡ r′
   record-of Length f f′ = omega (arith, f .0, f′ .0)
   record-of Opening f f′ = omega (arith, f .0, f′ .0)
   record-of Header f f′ = omega (arith, f .0, f′ .0)
   record-of Sections f f′ = omega (arith, f .0, f′ .0)
   record-of StateField f f′ =
-      same-record 17 8 r r′ _ _ k (λ n m h. omega arith) (state-offset-low (f .1 .0)) (state-offset-low (f′ .1 .0)) (f .1 .1) (f′ .1 .1)
+      same-record (F .header-width) (F .state-width) r r′ _ _ k
+      (omega (arith, state-offset-low (f .1 .0), proper .state-room)) (omega (arith, state-offset-low (f′ .1 .0), proper .state-room)) (f .1 .1) (f′ .1 .1)
   record-of ActionField f f′ =
-      same-record (state-byte version-1 (states b)) 7 r r′ _ _ k (λ n m h. omega arith) (action-offset-low (f .1 .0)) (action-offset-low (f′ .1 .0)) (f .1 .1) (f′ .1 .1)
+      same-record (actions-byte F (head-of b)) (F .action-width) r r′ _ _ k
+      (omega (arith, action-offset-low (f .1 .0), proper .action-room)) (omega (arith, action-offset-low (f′ .1 .0), proper .action-room)) (f .1 .1) (f′ .1 .1)
   record-of OutcomeField f f′ =
-      same-record (action-byte version-1 b (actions b)) 4 r r′ _ _ k (λ n m h. omega arith) (outcome-offset-low (f .1 .0)) (outcome-offset-low (f′ .1 .0)) (f .1 .1) (f′ .1 .1)
+      same-record (outcomes-byte F (head-of b)) (F .outcome-width) r r′ _ _ k
+      (omega (arith, outcome-offset-low (f .1 .0), proper .outcome-room)) (omega (arith, outcome-offset-low (f′ .1 .0), proper .outcome-room)) (f .1 .1) (f′ .1 .1)
   record-of Counts (inl f) (inl f′) = omega (arith, f, f′)
-  record-of Counts (inl f) (inr f′) = omega (arith, f, f′)
-  record-of Counts (inr f) (inl f′) = omega (arith, f, f′)
+  record-of Counts (inl f) (inr f′) = absurd (omega (arith, f, f′, grows (F .state-width) r (states b) (omega (arith, f)), proper .state-room))
+  record-of Counts (inr f) (inl f′) = absurd (omega (arith, f, f′, grows (F .state-width) r′ (states b) (omega (arith, f′)), proper .state-room))
   record-of Counts (inr f) (inr f′) = omega (arith, f, f′)
-  record-of Weights f f′ = omega (arith, f .1 .1, f′ .1 .1)
-  record-of Consistency f f′ = omega (arith, f .1 .1, f′ .1 .1)
+  record-of Weights f f′ = same-action (f .1 .1) (f′ .1 .1)
+  record-of Consistency f f′ = same-action (f .1 .1) (f′ .1 .1)
 
-pub one-first-fault : OneFirstFault version-1
-one-first-fault b c c′ r r′ k k′ first first′ = (cause, record-same, byte)
+pub one-first-fault : (F : Format) → Proper F → OneFirstFault F
+one-first-fault F proper b c c′ r r′ k k′ first first′ = (cause, record-same, byte)
   where
     level : number c ≡ number c′
     level = elim (decLt (number c) (number c′)) [
@@ -54,5 +63,5 @@ one-first-fault b c c′ r r′ k k′ first first′ = (cause, record-same, byt
     ]
 
     record-same : r ≡ r′
-    record-same = record-of b r r′ k c (first .fails)
-        (subst (λ (x : Cause). Fails version-1 b x r′ k) (sym cause) (subst (λ (x : ℕ). Fails version-1 b c′ r′ x) (sym byte) (first′ .fails)))
+    record-same = record-of F proper b r r′ k c (first .fails)
+        (subst (λ (x : Cause). Fails F b x r′ k) (sym cause) (subst (λ (x : ℕ). Fails F b c′ r′ x) (sym byte) (first′ .fails)))

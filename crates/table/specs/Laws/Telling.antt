@@ -67,7 +67,7 @@ module _ (F : Format) where
     outside = outside b;
   }
 
-proper-1 : Proper version-1
+pub proper-1 : Proper version-1
 proper-1 = omega arith
 
 -- a table is a model

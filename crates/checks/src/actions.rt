@@ -8,6 +8,7 @@ ghost use Rattle.rcm.specs.Format.{version-1};
 ghost use Rattle.rcm.specs.Layout.{actions, outcome-count, sum-below};
 ghost use Rattle.rcm.specs.Checks.{ActionRule, ActionsRule, action-offset};
 ghost use Rattle.rcm.specs.Checking.{RecordChecked, Checked, Holds};
+ghost use Rattle.checks.specs.Contents.{bytes-of};
 use rcm::ActionRecord;
 use rcm::FieldFault;
 use rcm::Framed;
@@ -41,9 +42,8 @@ fn check_action(action: ActionRecord, a: u32, before: u32) -> Result<(), FieldFa
 
 /// Checks the actions' section. Gives the sum of the actions' numbers of outcomes.
 pub fn check_actions(file: &Framed) -> Result<u32, RecordFault>
-    ensures { λ r. ⌜ Checked version-1 (now (now (file .entry) .bytes)) ActionField
-        (λ n. (n ≡ sum-below (outcome-count version-1 (now (now (file .entry) .bytes))) (actions (now (now (file .entry) .bytes))))
-        × Holds (actions (now (now (file .entry) .bytes))) (ActionsRule version-1 (now (now (file .entry) .bytes)))) r ⌝ }
+    ensures { λ r. ⌜ (let b = bytes-of (now (file .entry)) in
+        Checked version-1 b ActionField (λ n. (n ≡ sum-below (outcome-count version-1 b) (actions b)) × Holds (actions b) (ActionsRule version-1 b)) r) ⌝ }
 {
     let mut before = 0;
     for a in 0..u32::from(file.head().actions) {

@@ -9,6 +9,7 @@ ghost use Rattle.rcm.specs.Format.{version-1};
 ghost use Rattle.rcm.specs.Layout.{states, actions, outcomes, action-byte, state-record, estimate, outcomes-of};
 ghost use Rattle.rcm.specs.Checks.{Has, Consistent, ConsistencyRule};
 ghost use Rattle.rcm.specs.Checking.{Checked, Holds};
+ghost use Rattle.checks.specs.Contents.{bytes-of};
 ghost use Rattle.checks.specs.Filling.{Filled, FirstInconsistent};
 use rcm::ActionRecord;
 use rcm::Cause;
@@ -18,9 +19,10 @@ use rcm::format::TOTAL;
 
 /// The sum of weight times estimate over an action's outcomes.
 fn weighted_estimates(file: &Framed, action: ActionRecord) -> u64
-    requires filled { ⌜ Filled version-1 (now (now file .bytes)) ⌝ }
-    requires inside { ⌜ action .first + action .count ≤ outcomes (now (now file .bytes)) ⌝ }
-    ensures value { λ r. ⌜ r ≡ weighted (estimate version-1 (now (now (file .entry) .bytes))) (outcomes-of version-1 (now (now (file .entry) .bytes)) action) ⌝ }
+    requires filled { ⌜ Filled version-1 (bytes-of (now file)) ⌝ }
+    requires inside { ⌜ action .first + action .count ≤ outcomes (bytes-of (now file)) ⌝ }
+    ensures value { λ r. ⌜ (let b = bytes-of (now (file .entry)) in
+        r ≡ weighted (estimate version-1 b) (outcomes-of version-1 b action)) ⌝ }
     ensures small { λ r. ⌜ r ≤ 255 * 4294967295000 ⌝ }
 {
     let first = u32::from(action.first);
@@ -35,12 +37,11 @@ fn weighted_estimates(file: &Framed, action: ActionRecord) -> u64
 
 /// Checks a state's estimate against one of its actions.
 fn check_action(file: &Framed, s: u32, a: u32) -> Result<(), RecordFault>
-    requires filled { ⌜ Filled version-1 (now (now file .bytes)) ⌝ }
-    requires state { ⌜ s < states (now (now file .bytes)) ⌝ }
-    requires action { ⌜ a < actions (now (now file .bytes)) ⌝ }
-    ensures { λ r. ⌜ Cases r (λ _. Consistent version-1 (now (now (file .entry) .bytes)) s a)
-        (λ f. (f .cause ≡ Consistency) × (f .«record» ≡ a) × (f .byte ≡ action-byte version-1 (now (now (file .entry) .bytes)) a)
-        × (Consistent version-1 (now (now (file .entry) .bytes)) s a → ⊥)) ⌝ }
+    requires filled { ⌜ Filled version-1 (bytes-of (now file)) ⌝ }
+    requires state { ⌜ s < states (bytes-of (now file)) ⌝ }
+    requires action { ⌜ a < actions (bytes-of (now file)) ⌝ }
+    ensures { λ r. ⌜ (let b = bytes-of (now (file .entry)) in
+        Cases r (λ _. Consistent version-1 b s a) (λ f. (f .cause ≡ Consistency) × (f .«record» ≡ a) × (f .byte ≡ action-byte version-1 b a) × (Consistent version-1 b s a → ⊥))) ⌝ }
 {
     let action = file.action(a);
     let least = u64::from(action.cost) * u64::from(TOTAL) + weighted_estimates(file, action);
@@ -52,11 +53,10 @@ fn check_action(file: &Framed, s: u32, a: u32) -> Result<(), RecordFault>
 
 /// Checks a state's estimate against each of its actions.
 fn check_state(file: &Framed, s: u32) -> Result<(), RecordFault>
-    requires filled { ⌜ Filled version-1 (now (now file .bytes)) ⌝ }
-    requires known { ⌜ s < states (now (now file .bytes)) ⌝ }
-    ensures { λ r. ⌜ Cases r
-        (λ _. (a : ℕ) → Has (state-record version-1 (now (now (file .entry) .bytes)) s) a → Consistent version-1 (now (now (file .entry) .bytes)) s a)
-        (λ f. (f .cause ≡ Consistency) × FirstInconsistent version-1 (now (now (file .entry) .bytes)) s (f .«record») (f .byte)) ⌝ }
+    requires filled { ⌜ Filled version-1 (bytes-of (now file)) ⌝ }
+    requires known { ⌜ s < states (bytes-of (now file)) ⌝ }
+    ensures { λ r. ⌜ (let b = bytes-of (now (file .entry)) in
+        Cases r (λ _. (a : ℕ) → Has (state-record version-1 b s) a → Consistent version-1 b s a) (λ f. (f .cause ≡ Consistency) × FirstInconsistent version-1 b s (f .«record») (f .byte))) ⌝ }
 {
     let state = file.state(s);
     let first = u32::from(state.first);
@@ -67,9 +67,9 @@ fn check_state(file: &Framed, s: u32) -> Result<(), RecordFault>
 }
 
 pub fn check_consistency(file: &Framed) -> Result<(), RecordFault>
-    requires { ⌜ Filled version-1 (now (now file .bytes)) ⌝ }
-    ensures { λ r. ⌜ Checked version-1 (now (now (file .entry) .bytes)) Consistency
-        (λ _. Holds (actions (now (now (file .entry) .bytes))) (ConsistencyRule version-1 (now (now (file .entry) .bytes)))) r ⌝ }
+    requires { ⌜ Filled version-1 (bytes-of (now file)) ⌝ }
+    ensures { λ r. ⌜ (let b = bytes-of (now (file .entry)) in
+        Checked version-1 b Consistency (λ _. Holds (actions b) (ConsistencyRule version-1 b)) r) ⌝ }
 {
     for s in 0..u32::from(file.head().states) {
         check_state(file, s)?;

@@ -6,17 +6,18 @@ ghost use Rattle.rcm.specs.declared.faults.Cause.the-variants.{Counts};
 ghost use Rattle.rcm.specs.Format.{version-1};
 ghost use Rattle.rcm.specs.Layout.{states, actions, outcomes, action-count, outcome-count, sum-below};
 ghost use Rattle.rcm.specs.Checking.{WellFramed, Checked};
+ghost use Rattle.checks.specs.Contents.{bytes-of};
 use rcm::Cause;
 use rcm::Framed;
 use rcm::RecordFault;
 
 /// Takes the sum of the states' numbers of actions, and of the actions' numbers of outcomes.
 pub fn check_counts(file: &Framed, of_states: u32, of_actions: u32) -> Result<(), RecordFault>
-    requires framed { ⌜ WellFramed version-1 (now (now file .bytes)) ⌝ }
-    requires states { ⌜ «of_states» ≡ sum-below (action-count version-1 (now (now file .bytes))) (states (now (now file .bytes))) ⌝ }
-    requires actions { ⌜ «of_actions» ≡ sum-below (outcome-count version-1 (now (now file .bytes))) (actions (now (now file .bytes))) ⌝ }
-    ensures { λ r. ⌜ Checked version-1 (now (now (file .entry) .bytes)) Counts
-        (λ _. («of_states» ≡ actions (now (now (file .entry) .bytes))) × («of_actions» ≡ outcomes (now (now (file .entry) .bytes)))) r ⌝ }
+    requires framed { ⌜ WellFramed version-1 (bytes-of (now file)) ⌝ }
+    requires states { ⌜ «of_states» ≡ sum-below (action-count version-1 (bytes-of (now file))) (states (bytes-of (now file))) ⌝ }
+    requires actions { ⌜ «of_actions» ≡ sum-below (outcome-count version-1 (bytes-of (now file))) (actions (bytes-of (now file))) ⌝ }
+    ensures { λ r. ⌜ (let b = bytes-of (now (file .entry)) in
+        Checked version-1 b Counts (λ _. («of_states» ≡ actions b) × («of_actions» ≡ outcomes b)) r) ⌝ }
 {
     let head = file.head();
     if of_states != u32::from(head.actions) {

@@ -7,6 +7,7 @@ ghost use Rattle.std.specs.Results.{Cases};
 ghost use Rattle.rcm.specs.Format.{version-1};
 ghost use Rattle.rcm.specs.Checks.{Sound, FirstFault, OneFirstFault};
 ghost use Rattle.rcm.specs.Checking.{Passed, Tried};
+ghost use Rattle.checks.specs.Contents.{bytes-of};
 ghost use Rattle.checks.specs.Filling.{Filled};
 use rcm::Framed;
 use rcm::RecordFault;
@@ -27,9 +28,9 @@ use weights::check_weights;
 
 /// The checks of the layer "record", 5 to 8.
 fn check_records(file: &Framed) -> Result<(), RecordFault>
-    requires { ⌜ Passed version-1 (now (now file .bytes)) 5 ⌝ }
-    ensures { λ r. ⌜ Tried version-1 (now (now (file .entry) .bytes))
-        (λ _. Filled version-1 (now (now (file .entry) .bytes)) × Passed version-1 (now (now (file .entry) .bytes)) 9) r ⌝ }
+    requires { ⌜ Passed version-1 (bytes-of (now file)) 5 ⌝ }
+    ensures { λ r. ⌜ (let b = bytes-of (now (file .entry)) in
+        Tried version-1 b (λ _. Filled version-1 b × Passed version-1 b 9) r) ⌝ }
 {
     let of_states = check_states(file)?;
     let of_actions = check_actions(file)?;
@@ -39,9 +40,10 @@ fn check_records(file: &Framed) -> Result<(), RecordFault>
 
 /// The checks of the layer "rule", 9 and 10.
 fn check_rules(file: &Framed) -> Result<(), RecordFault>
-    requires filled { ⌜ Filled version-1 (now (now file .bytes)) ⌝ }
-    requires passed { ⌜ Passed version-1 (now (now file .bytes)) 9 ⌝ }
-    ensures { λ r. ⌜ Tried version-1 (now (now (file .entry) .bytes)) (λ _. Sound version-1 (now (now (file .entry) .bytes))) r ⌝ }
+    requires filled { ⌜ Filled version-1 (bytes-of (now file)) ⌝ }
+    requires passed { ⌜ Passed version-1 (bytes-of (now file)) 9 ⌝ }
+    ensures { λ r. ⌜ (let b = bytes-of (now (file .entry)) in
+        Tried version-1 b (λ _. Sound version-1 b) r) ⌝ }
 {
     check_weights(file)?;
     check_consistency(file)
@@ -49,9 +51,10 @@ fn check_rules(file: &Framed) -> Result<(), RecordFault>
 
 /// Takes the bytes as a framed file exactly if no check fails. Else tells the first fault, and the file is as it was.
 pub fn check<'a>(file: &mut Framed<'a>, bytes: &'a [u8]) -> Result<(), RecordFault>
-    ensures { λ r. ⌜ Cases r
-        (λ _. Sound version-1 (now (bytes .entry)) × (now (now (file .exit) .bytes) ≡ now (bytes .entry)))
-        (λ f. FirstFault version-1 (now (bytes .entry)) (f .cause) (f .«record») (f .byte) × (now (file .exit) ≡ now (file .entry))) ⌝ }
+    ensures { λ r. ⌜ (let b = now (bytes .entry) in
+        Cases r
+        (λ _. Sound version-1 b × (bytes-of (now (file .exit)) ≡ b))
+        (λ f. FirstFault version-1 b (f .cause) (f .«record») (f .byte) × (now (file .exit) ≡ now (file .entry)))) ⌝ }
 {
     let mut opened = Framed::nothing();
     opened.open(bytes)?;

@@ -8,6 +8,7 @@ ghost use Rattle.rcm.specs.Format.{version-1};
 ghost use Rattle.rcm.specs.Layout.{states, outcomes};
 ghost use Rattle.rcm.specs.Checks.{OutcomeRule, OutcomesRule, outcome-offset};
 ghost use Rattle.rcm.specs.Checking.{RecordChecked, Checked, Holds};
+ghost use Rattle.checks.specs.Contents.{bytes-of};
 use rcm::FieldFault;
 use rcm::Framed;
 use rcm::OutcomeRecord;
@@ -40,9 +41,9 @@ fn check_outcome(outcome: OutcomeRecord, o: u32, known: u32) -> Result<(), Field
 
 /// Checks the outcomes' section.
 pub fn check_outcomes(file: &Framed) -> Result<(), RecordFault>
-    requires { ⌜ 1 ≤ states (now (now file .bytes)) ⌝ }
-    ensures { λ r. ⌜ Checked version-1 (now (now (file .entry) .bytes)) OutcomeField
-        (λ _. Holds (outcomes (now (now (file .entry) .bytes))) (OutcomesRule version-1 (now (now (file .entry) .bytes)))) r ⌝ }
+    requires { ⌜ 1 ≤ states (bytes-of (now file)) ⌝ }
+    ensures { λ r. ⌜ (let b = bytes-of (now (file .entry)) in
+        Checked version-1 b OutcomeField (λ _. Holds (outcomes b) (OutcomesRule version-1 b)) r) ⌝ }
 {
     let head = file.head();
     for o in 0..u32::from(head.outcomes) {

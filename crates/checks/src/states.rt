@@ -8,6 +8,7 @@ ghost use Rattle.rcm.specs.Format.{version-1};
 ghost use Rattle.rcm.specs.Layout.{states, action-count, sum-below};
 ghost use Rattle.rcm.specs.Checks.{StateRule, StatesRule, state-offset, unless-terminal};
 ghost use Rattle.rcm.specs.Checking.{RecordChecked, Checked, Holds};
+ghost use Rattle.checks.specs.Contents.{bytes-of};
 use rcm::FieldFault;
 use rcm::Framed;
 use rcm::Place;
@@ -55,9 +56,8 @@ fn check_state(state: StateRecord, s: u32, price: u32, before: u32) -> Result<()
 
 /// Checks the states' section. Gives the sum of the states' numbers of actions.
 pub fn check_states(file: &Framed) -> Result<u32, RecordFault>
-    ensures { λ r. ⌜ Checked version-1 (now (now (file .entry) .bytes)) StateField
-        (λ n. (n ≡ sum-below (action-count version-1 (now (now (file .entry) .bytes))) (states (now (now (file .entry) .bytes))))
-        × Holds (states (now (now (file .entry) .bytes))) (StatesRule version-1 (now (now (file .entry) .bytes)))) r ⌝ }
+    ensures { λ r. ⌜ (let b = bytes-of (now (file .entry)) in
+        Checked version-1 b StateField (λ n. (n ≡ sum-below (action-count version-1 b) (states b)) × Holds (states b) (StatesRule version-1 b)) r) ⌝ }
 {
     let head = file.head();
     let mut before = 0;

@@ -9,6 +9,7 @@ ghost use Rattle.rcm.specs.Format.{version-1};
 ghost use Rattle.rcm.specs.Layout.{actions, outcomes, outcomes-of};
 ghost use Rattle.rcm.specs.Checks.{WeightsRule};
 ghost use Rattle.rcm.specs.Checking.{Checked, Holds};
+ghost use Rattle.checks.specs.Contents.{bytes-of};
 ghost use Rattle.checks.specs.Filling.{Filled};
 use rcm::ActionRecord;
 use rcm::Cause;
@@ -18,8 +19,8 @@ use rcm::format::TOTAL;
 
 /// The sum of the weights of an action's outcomes.
 fn weights_of(file: &Framed, action: ActionRecord) -> u64
-    requires { ⌜ action .first + action .count ≤ outcomes (now (now file .bytes)) ⌝ }
-    ensures { λ r. ⌜ r ≡ weights (outcomes-of version-1 (now (now (file .entry) .bytes)) action) ⌝ }
+    requires { ⌜ action .first + action .count ≤ outcomes (bytes-of (now file)) ⌝ }
+    ensures { λ r. ⌜ r ≡ weights (outcomes-of version-1 (bytes-of (now (file .entry))) action) ⌝ }
 {
     let first = u32::from(action.first);
     let mut sum = 0;
@@ -30,9 +31,9 @@ fn weights_of(file: &Framed, action: ActionRecord) -> u64
 }
 
 pub fn check_weights(file: &Framed) -> Result<(), RecordFault>
-    requires { ⌜ Filled version-1 (now (now file .bytes)) ⌝ }
-    ensures { λ r. ⌜ Checked version-1 (now (now (file .entry) .bytes)) Weights
-        (λ _. Holds (actions (now (now (file .entry) .bytes))) (WeightsRule version-1 (now (now (file .entry) .bytes)))) r ⌝ }
+    requires { ⌜ Filled version-1 (bytes-of (now file)) ⌝ }
+    ensures { λ r. ⌜ (let b = bytes-of (now (file .entry)) in
+        Checked version-1 b Weights (λ _. Holds (actions b) (WeightsRule version-1 b)) r) ⌝ }
 {
     for a in 0..u32::from(file.head().actions) {
         let action = file.action(a);

@@ -32,7 +32,8 @@ use crate::frame::Framed;
 use crate::records::Head;
 
 fn check_length(bytes: &[u8]) -> Result<(), RecordFault>
-    ensures { λ r. ⌜ Checked version-1 (now (bytes .entry)) Length (λ _. LengthRule version-1 (now (bytes .entry)) whole) r ⌝ }
+    ensures { λ r. ⌜ (let b = now (bytes .entry) in
+        Checked version-1 b Length (λ _. LengthRule version-1 b whole) r) ⌝ }
 {
     if bytes.len() < HEADER_WIDTH as usize || bytes.len() > BYTES_MOST {
         return Err(Cause::Length.fault(0, 0));
@@ -61,8 +62,9 @@ fn read_head(rest: &[u8]) -> Head
 /// Checks the mark and the version, and reads the header from the rest of the file.
 fn check_opening(bytes: &[u8]) -> Result<Head, RecordFault>
     requires { ⌜ LengthRule version-1 (now bytes) whole ⌝ }
-    ensures { λ r. ⌜ Checked version-1 (now (bytes .entry)) Opening
-        (λ h. (h ≡ head-of (now (bytes .entry))) × ((p : OpeningPart) → OpeningRule version-1 (now (bytes .entry)) p)) r ⌝ }
+    ensures { λ r. ⌜ (let b = now (bytes .entry) in
+        Checked version-1 b Opening
+        (λ h. (h ≡ head-of b) × ((p : OpeningPart) → OpeningRule version-1 b p)) r) ⌝ }
 {
     let [b'R', b'C', b'M', high, low, rest @ ..] = bytes else {
         return Err(Cause::Opening.fault(0, 0));
@@ -99,7 +101,8 @@ fn check_header(head: Head) -> Result<(), FieldFault>
 
 fn check_sections(bytes: &[u8], head: Head) -> Result<(), RecordFault>
     requires { ⌜ head ≡ head-of (now bytes) ⌝ }
-    ensures { λ r. ⌜ Checked version-1 (now (bytes .entry)) Sections (λ _. SectionsRule version-1 (now (bytes .entry)) whole) r ⌝ }
+    ensures { λ r. ⌜ (let b = now (bytes .entry) in
+        Checked version-1 b Sections (λ _. SectionsRule version-1 b whole) r) ⌝ }
 {
     if bytes.len() != head.end_byte() as usize {
         return Err(Cause::Sections.fault(0, 0));
@@ -109,9 +112,10 @@ fn check_sections(bytes: &[u8], head: Head) -> Result<(), RecordFault>
 
 /// The checks of the file as a whole, in their order. Gives the header.
 fn check_frame(bytes: &[u8]) -> Result<Head, RecordFault>
-    ensures { λ r. ⌜ Cases r
-        (λ h. (h ≡ head-of (now (bytes .entry))) × WellFramed version-1 (now (bytes .entry)) × Passed version-1 (now (bytes .entry)) 5)
-        (λ f. (layer-of (f .cause) ≡ File) × FirstFault version-1 (now (bytes .entry)) (f .cause) (f .«record») (f .byte)) ⌝ }
+    ensures { λ r. ⌜ (let b = now (bytes .entry) in
+        Cases r
+        (λ h. (h ≡ head-of b) × WellFramed version-1 b × Passed version-1 b 5)
+        (λ f. (layer-of (f .cause) ≡ File) × FirstFault version-1 b (f .cause) (f .«record») (f .byte))) ⌝ }
 {
     check_length(bytes)?;
     let head = check_opening(bytes)?;
@@ -133,9 +137,10 @@ impl<'a> Framed<'a> {
 
     /// Takes a file if none of the checks of it as a whole fails. Else tells the first that fails, and stays as it was.
     pub fn open(&mut self, bytes: &'a [u8]) -> Result<(), RecordFault>
-        ensures { λ r. ⌜ Cases r
-            (λ _. (now (now (self .exit) .bytes) ≡ now (bytes .entry)) × Passed version-1 (now (bytes .entry)) 5)
-            (λ f. (layer-of (f .cause) ≡ File) × FirstFault version-1 (now (bytes .entry)) (f .cause) (f .«record») (f .byte) × (now (self .exit) ≡ now (self .entry))) ⌝ }
+        ensures { λ r. ⌜ (let b = now (bytes .entry) in
+            Cases r
+            (λ _. (now (now (self .exit) .bytes) ≡ b) × Passed version-1 b 5)
+            (λ f. (layer-of (f .cause) ≡ File) × FirstFault version-1 b (f .cause) (f .«record») (f .byte) × (now (self .exit) ≡ now (self .entry)))) ⌝ }
     {
         let header = check_frame(bytes)?;
         *self = Framed { bytes, header };

@@ -25,12 +25,13 @@ impl<'a> Table<'a> {
 
     /// Loads a file exactly if no check fails. Else tells the first fault and its layer, and the table is as it was.
     pub fn load(&mut self, bytes: &'a [u8]) -> Result<(), LoadFault>
-        ensures told { λ r. ⌜ Cases r
-            (λ _. Sound version-1 (now (bytes .entry)) × (now (now (self .exit) .file .bytes) ≡ now (bytes .entry))
-            × (told version-1 (now (now (self .exit) .file .bytes)) ≡ decoded version-1 (now (bytes .entry))))
+        ensures told { λ r. ⌜ (let b = now (bytes .entry) in
+            Cases r
+            (λ _. Sound version-1 b × (now (now (self .exit) .file .bytes) ≡ b)
+            × (told version-1 (now (now (self .exit) .file .bytes)) ≡ decoded version-1 b))
             (λ f. (f .layer ≡ layer-of (f .fault .cause))
-            × FirstFault version-1 (now (bytes .entry)) (f .fault .cause) (f .fault .«record») (f .fault .byte)
-            × (now (self .exit) ≡ now (self .entry))) ⌝ }
+            × FirstFault version-1 b (f .fault .cause) (f .fault .«record») (f .fault .byte)
+            × (now (self .exit) ≡ now (self .entry)))) ⌝ }
         ensures one_first_fault { λ _. ⌜ OneFirstFault version-1 ⌝ }
     {
         let mut file = self.file;

@@ -72,7 +72,8 @@ pub impl Model for Table<'_> as TableModel {
 impl Table<'_> {
     /// The record of a state's action; zeros where the state has no such action.
     fn action(&self, s: u32, a: u32) -> ActionRecord
-        ensures means { λ r. ⌜ action-at (told version-1 (now (now (self .entry) .file .bytes))) s a ≡ action-of version-1 (now (now (self .entry) .file .bytes)) r ⌝ }
+        ensures means { λ r. ⌜ (let b = now (now (self .entry) .file .bytes) in
+            action-at (told version-1 b) s a ≡ action-of version-1 b r) ⌝ }
         ensures inside { λ r. ⌜ r .first + r .count ≤ outcomes (now (now (self .entry) .file .bytes)) ⌝ }
     {
         let state = self.file.state(s);

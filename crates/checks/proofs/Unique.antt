@@ -1,8 +1,8 @@
 -- A file has at most one first fault.
-use mathlib.Core.Path.{_≡_, refl, sym, subst}
+use mathlib.Core.Path.{_≡_, sym, subst}
 use mathlib.Core.List.{List}
-use mathlib.Core.Logic.{_⊎_, inl, inr}
-use Prim.Native.Nat.{ℕ, _+_, _*_, _<_, _≤_}
+use mathlib.Core.Logic.{inl, inr}
+use Prim.Native.Nat.{ℕ, _+_}
 use native.Mathlib.Decide.{decLt}
 use native.Mathlib.Omega.{arith}
 use Rattle.rcm.specs.declared.faults.Cause.{Cause}
@@ -10,7 +10,7 @@ use Rattle.rcm.specs.declared.faults.Cause.the-variants.{Length, Opening, Heade
 use Rattle.rcm.specs.Faults.{number}
 use Rattle.rcm.specs.Format.{Format, Proper}
 use Rattle.rcm.specs.Layout.{head-of, states, actions-byte, outcomes-byte, action-byte}
-use Rattle.rcm.specs.Checks.{Fails, FirstFault, OneFirstFault}
+use Rattle.rcm.specs.Checks.{Fails, OneFirstFault}
 use Rattle.rcm.proofs.Order.{same-cause}
 use Rattle.checks.proofs.Offsets.{state-offset-low, action-offset-low, outcome-offset-low, grows, same-record}
 

@@ -1,7 +1,7 @@
 //! The actions' section: the check of an action, and of all.
 
 ghost use mathlib.Core.Path.{_≡_};
-ghost use Prim.Native.Nat.{ℕ, _+_, _<_, _≤_};
+ghost use Prim.Native.Nat.{_+_, _<_};
 ghost use Rattle.rcm.specs.declared.faults.Place.the-variants.{InAction};
 ghost use Rattle.rcm.specs.declared.faults.Cause.the-variants.{ActionField};
 ghost use Rattle.rcm.specs.Format.{version-1};

@@ -1,7 +1,7 @@
 //! The check that the counts of the states and of the actions add up to the header's numbers.
 
 ghost use mathlib.Core.Path.{_≡_};
-ghost use Prim.Native.Nat.{ℕ, _+_, _<_, _≤_};
+ghost use Prim.Native.Nat.{_+_, _<_};
 ghost use Rattle.rcm.specs.declared.faults.Cause.the-variants.{Counts};
 ghost use Rattle.rcm.specs.Format.{version-1};
 ghost use Rattle.rcm.specs.Layout.{states, actions, outcomes, action-count, outcome-count, sum-below};

@@ -2,10 +2,10 @@
 //! first fault. What each check asks is in the crate `rcm`, specs/Checks.antt.
 
 ghost use mathlib.Core.Path.{_≡_};
-ghost use Prim.Native.Nat.{ℕ, _<_, _≤_};
+ghost use Prim.Native.Nat.{_<_};
 ghost use Rattle.std.specs.Results.{Cases};
 ghost use Rattle.rcm.specs.Format.{version-1};
-ghost use Rattle.rcm.specs.Checks.{Sound, FirstFault, OneFirstFault};
+ghost use Rattle.rcm.specs.Checks.{Sound, FirstFault};
 ghost use Rattle.rcm.specs.Checking.{Passed, Tried};
 ghost use Rattle.checks.specs.Contents.{bytes-of};
 ghost use Rattle.checks.specs.Filling.{Filled};

@@ -1,7 +1,6 @@
 //! The outcomes' section: the check of an outcome, and of all.
 
-ghost use mathlib.Core.Path.{_≡_};
-ghost use Prim.Native.Nat.{ℕ, _+_, _<_, _≤_};
+ghost use Prim.Native.Nat.{_+_, _<_, _≤_};
 ghost use Rattle.rcm.specs.declared.faults.Place.the-variants.{InOutcome};
 ghost use Rattle.rcm.specs.declared.faults.Cause.the-variants.{OutcomeField};
 ghost use Rattle.rcm.specs.Format.{version-1};

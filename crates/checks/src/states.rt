@@ -1,7 +1,7 @@
 //! The states' section: the check of a state, and of all.
 
 ghost use mathlib.Core.Path.{_≡_};
-ghost use Prim.Native.Nat.{ℕ, _+_, _<_, _≤_};
+ghost use Prim.Native.Nat.{_+_, _<_};
 ghost use Rattle.rcm.specs.declared.faults.Place.the-variants.{InState};
 ghost use Rattle.rcm.specs.declared.faults.Cause.the-variants.{StateField};
 ghost use Rattle.rcm.specs.Format.{version-1};

@@ -1,8 +1,7 @@
 //! The check that the weights of each action's outcomes add up to the total.
 
 ghost use mathlib.Core.Path.{_≡_};
-ghost use Prim.Native.Nat.{ℕ, _+_, _<_, _≤_};
-ghost use Rattle.std.specs.Results.{Cases};
+ghost use Prim.Native.Nat.{_+_, _<_, _≤_};
 ghost use Rattle.process.specs.Process.{weights};
 ghost use Rattle.rcm.specs.declared.faults.Cause.the-variants.{Weights};
 ghost use Rattle.rcm.specs.Format.{version-1};

@@ -1,6 +1,5 @@
 //! The model that a table file means, as text, or why the file is refused.
 
-ghost use mathlib.Core.Path.{_≡_};
 ghost use Rattle.std.specs.Of.String.{string-bytes};
 ghost use Rattle.std.specs.Vec.{made};
 ghost use Rattle.description.specs.Files.{Reported};

@@ -1,9 +1,8 @@
 -- What the bytes of a table file say: its header, its records, and the process that they mean.
-use mathlib.Core.Path.{_≡_}
 use mathlib.Core.List.{List, [], _∷_}
 use mathlib.Core.Bool.{Bool, true, false, cond}
-use Prim.Native.Nat.{ℕ, zero, suc, _+_, _*_, _<_, _≤_}
-use lib.ListN.{length, getD}
+use Prim.Native.Nat.{ℕ, zero, suc, _+_, _*_}
+use lib.ListN.{getD}
 use lib.Dec.{ltb, eqb}
 use Rattle.process.specs.Process.{Process, Action, void}
 use Rattle.rcm.specs.declared.records.Head.{Head}

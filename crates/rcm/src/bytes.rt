@@ -1,7 +1,7 @@
 //! Numbers in bytes, high byte first.
 
 ghost use mathlib.Core.Path.{_≡_};
-ghost use Prim.Native.Nat.{ℕ, _+_, _<_, _≤_};
+ghost use Prim.Native.Nat.{_+_, _<_};
 ghost use lib.ListN.{length};
 ghost use Rattle.rcm.specs.Format.{u16-at, u32-at};
 

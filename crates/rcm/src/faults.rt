@@ -1,7 +1,6 @@
 //! Why a file is refused: a field's fault, the record's fault that it becomes, and the load's fault, with its layer.
 
 ghost use mathlib.Core.Path.{_≡_};
-ghost use Prim.Native.Nat.{ℕ};
 ghost use Rattle.std.specs.declared.option.Option.the-variants.{Some};
 ghost use Rattle.rcm.specs.Faults.{number, layer as layer-of, cause as cause-of, layer-text, refusal-text};
 use std::fmt;

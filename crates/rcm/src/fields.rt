@@ -1,7 +1,6 @@
 //! The test of a field: its limits, or its fault.
 
 ghost use mathlib.Core.Path.{_≡_};
-ghost use Prim.Native.Nat.{ℕ, _≤_};
 ghost use Rattle.std.specs.Results.{Cases};
 ghost use Rattle.rcm.specs.Checks.{Within};
 use crate::faults::FieldFault;

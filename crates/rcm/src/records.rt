@@ -1,7 +1,6 @@
 //! The header and the records of a table file, as their numbers. A record also knows its first byte.
 
 ghost use mathlib.Core.Path.{_≡_};
-ghost use Prim.Native.Nat.{ℕ};
 ghost use Rattle.rcm.specs.Format.{version-1};
 ghost use Rattle.rcm.specs.Layout.{is-terminal, actions-byte, outcomes-byte, end-byte};
 use crate::format::ACTION_WIDTH;

@@ -1,5 +1,4 @@
 -- The actions of a state and the outcomes of an action stand within their sections.
-use mathlib.Core.Path.{_≡_}
 use mathlib.Core.List.{List}
 use Prim.Native.Nat.{ℕ, _+_, _<_, _≤_}
 use native.Mathlib.Omega.{arith}

@@ -1,14 +1,14 @@
 -- Where no check fails, every rule holds.
 use mathlib.Core.Path.{_≡_, refl}
 use mathlib.Core.List.{List}
-use mathlib.Core.Logic.{_⊎_, inl, inr}
-use Prim.Native.Nat.{ℕ, _+_, _-_, _<_, _≤_}
+use mathlib.Core.Logic.{inl, inr}
+use Prim.Native.Nat.{ℕ, _+_, _-_, _<_}
 use native.Mathlib.Decide.{decLe}
 use native.Mathlib.Omega.{arith}
 use lib.Dec.{lit<}
 use Rattle.rcm.specs.declared.faults.Cause.the-variants.{Header, Sections, StateField, ActionField, OutcomeField, Counts, Weights, Consistency}
 use Rattle.rcm.specs.Format.{Format}
-use Rattle.rcm.specs.Layout.{head-of, states, actions, outcomes, state-byte, action-byte, outcome-byte, action-count, outcome-count, sum-below}
+use Rattle.rcm.specs.Layout.{head-of, states, actions, outcomes, state-byte, action-byte, outcome-byte, outcome-count}
 use Rattle.rcm.specs.Checks.{Clear, Sound, HeaderRule, header-offset, SectionsRule, StatesRule, state-offset, ActionsRule, action-offset, OutcomesRule, outcome-offset, WeightsRule, ConsistencyRule, whole, whole-offset, States, Start, Actions, Outcomes, Price, Kind, Estimate, FirstAction, ActionCount, Cost, FirstOutcome, OutcomeCount, Target, Weight}
 use Rattle.rcm.specs.Checking.{Holds, Passed, WellFramed}
 use Rattle.rcm.specs.Laws.Sums.{sum-zero}

@@ -2,12 +2,11 @@
 use mathlib.Core.Path.{_≡_, refl, subst}
 use mathlib.Core.List.{List}
 use mathlib.Core.Bool.{Bool, true, false, cond}
-use Prim.Native.Nat.{ℕ, _+_, _<_, _≤_}
+use Prim.Native.Nat.{ℕ, _+_, _≤_}
 use native.Mathlib.Decide.{decLe}
 use native.Mathlib.Omega.{arith}
 use borrow.Author.Tests.{eq-eqb}
 use lib.Dec.{eqb}
-use Rattle.rcm.specs.declared.records.Head.{Head}
 use Rattle.rcm.specs.Format.{Format}
 use Rattle.rcm.specs.Layout.{head-of, actions, outcomes}
 use Rattle.rcm.specs.Checks.{Within, Broken, HeaderPart, HeaderRule, SectionsRule, whole, States, Start, Actions, Outcomes, Price}

@@ -1,7 +1,7 @@
 //! Reads the header and the records of a framed file. The only file that knows where the fields stand.
 
 ghost use mathlib.Core.Path.{_≡_};
-ghost use Prim.Native.Nat.{ℕ, _+_, _<_, _≤_};
+ghost use Prim.Native.Nat.{_+_, _<_};
 ghost use Rattle.rcm.specs.Format.{version-1};
 ghost use Rattle.rcm.specs.Layout.{some-bytes, head-of, state-told, action-told, outcome-told};
 use crate::bytes::u16_at;

@@ -1,15 +1,14 @@
 -- A file that keeps the layout means a process in order.
 use mathlib.Core.Path.{_≡_, refl, sym, _∙_, ap, ap₂}
 use mathlib.Core.List.{List, [], _∷_}
-use mathlib.Core.Bool.{Bool, true, false, cond}
+use mathlib.Core.Bool.{true, cond}
 use Prim.Native.Nat.{ℕ, _+_, _*_, _<_, _≤_}
 use native.Mathlib.Omega.{arith}
 use lib.Dec.{eqb}
-use lib.ListN.{length}
-use Rattle.process.specs.Process.{Process, Action, Each, weights, weighted, ActionInOrder, TerminalInOrder, OpenInOrder, InOrder}
+use Rattle.process.specs.Process.{Process, Each, weighted, ActionInOrder, TerminalInOrder, OpenInOrder, InOrder}
 use Rattle.rcm.specs.declared.records.StateRecord.{StateRecord}
 use Rattle.rcm.specs.Format.{Format, Proper}
-use Rattle.rcm.specs.Layout.{is-terminal, states, actions, outcomes, state-record, action-record, state-told, estimate, action, actions-of, outcome, outcomes-of, decoded, run}
+use Rattle.rcm.specs.Layout.{is-terminal, states, actions, outcomes, state-record, action-record, estimate, action, actions-of, outcome, outcomes-of, decoded}
 use Rattle.rcm.specs.Checks.{Sound, whole, Estimate, ActionCount, Cost, OutcomeCount, Target, Weight, Has}
 use Rattle.rcm.specs.Laws.Rules.{cond-most}
 use Rattle.rcm.specs.Laws.Runs.{run-length, run-none, each-run}

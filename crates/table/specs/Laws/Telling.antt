@@ -1,21 +1,21 @@
 -- What a table tells, read from its bytes, and the law of a model for it.
 use mathlib.Core.Path.{_≡_, refl, sym, _∙_, ap}
 use mathlib.Core.List.{List, [], _∷_}
-use mathlib.Core.Bool.{Bool, true, false, cond}
+use mathlib.Core.Bool.{true, false}
 use Prim.Native.Nat.{ℕ, _+_, _<_, _≤_}
 use native.Mathlib.Decide.{decLt}
 use native.Mathlib.Omega.{arith}
 use borrow.Author.Tests.{le-ltb}
-use lib.Dec.{ltb, eqb}
-use lib.ListN.{length, getD}
-use Rattle.process.specs.Process.{Process, Action, action-at, no-action, outcome-at, Told}
+use lib.Dec.{ltb}
+use lib.ListN.{getD}
+use Rattle.process.specs.Process.{Action, action-at, no-action, Told}
 use Rattle.rcm.specs.Format.{Format, Proper, version-1, u16-at, u32-at}
-use Rattle.rcm.specs.Layout.{head-of, is-terminal, states, actions, outcomes, state-told, action-told, outcome-told, state-record, action, actions-of, action-of, outcome, decoded, told, some-bytes}
+use Rattle.rcm.specs.Layout.{head-of, is-terminal, states, actions, state-told, action, actions-of, decoded, told, some-bytes}
 use Rattle.rcm.specs.Checks.{Sound}
-use Rattle.rcm.specs.Laws.Runs.{run-length, run-at, run-past, run-none}
-use Rattle.rcm.specs.Laws.Told.{state-here, action-here}
+use Rattle.rcm.specs.Laws.Runs.{run-at, run-past, run-none}
+use Rattle.rcm.specs.Laws.Told.{state-here}
 use Rattle.checks.specs.Filling.{Filled}
-use Rattle.checks.specs.Laws.Inside.{actions-inside, outcomes-inside}
+use Rattle.checks.specs.Laws.Inside.{actions-inside}
 use Rattle.checks.specs.Laws.Sound.{sound-filled}
 use Rattle.table.specs.Laws.Meaning.{sound-in-order}
 

@@ -1,7 +1,7 @@
 //! The table as a model.
 
 ghost use mathlib.Core.Path.{_≡_};
-ghost use Prim.Native.Nat.{ℕ, _+_, _≤_};
+ghost use Prim.Native.Nat.{_+_, _≤_};
 ghost use denote.Ref.{now};
 ghost use Rattle.process.specs.Process.{action-at};
 ghost use Rattle.rcm.specs.Format.{version-1};

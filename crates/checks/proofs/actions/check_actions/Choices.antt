@@ -1,5 +1,5 @@
 use mathlib.Core.Path.{_≡_}
-use Prim.Native.Nat.{ℕ, _≤_, _*_}
+use Prim.Native.Nat.{_≤_, _*_}
 use Rattle.rcm.specs.Format.{version-1}
 use Rattle.rcm.specs.Layout.{sum-below, outcome-count}
 use Rattle.rcm.specs.Checks.{ActionsRule}

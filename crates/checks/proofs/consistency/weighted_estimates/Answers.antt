@@ -7,7 +7,7 @@ use Rattle.process.specs.Process.{weighted}
 use Rattle.rcm.specs.declared.records.OutcomeRecord.{OutcomeRecord}
 use Rattle.rcm.specs.declared.records.StateRecord.{StateRecord}
 use Rattle.rcm.specs.Format.{version-1}
-use Rattle.rcm.specs.Layout.{states, outcome, outcomes, outcome-record, state-told, estimate, run}
+use Rattle.rcm.specs.Layout.{outcome, outcomes, outcome-record, state-told, estimate, run}
 use Rattle.rcm.specs.Checks.{Target, Weight}
 use Rattle.rcm.specs.Laws.Runs.{weighted-none, weighted-more}
 use Rattle.rcm.specs.Laws.Told.{outcome-here, state-here}

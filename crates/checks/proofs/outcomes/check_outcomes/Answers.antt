@@ -1,7 +1,7 @@
 use borrow.Author.Count.{below-more}
 use native.Mathlib.Omega.{arith}
 use mathlib.Core.Path.{_≡_, ap, _∙_}
-use Prim.Native.Nat.{ℕ, _<_}
+use Prim.Native.Nat.{_<_}
 use Rattle.rcm.specs.declared.records.Head.{Head}
 use Rattle.rcm.specs.Format.{version-1}
 use Rattle.rcm.specs.Layout.{states, outcomes, outcome-record}

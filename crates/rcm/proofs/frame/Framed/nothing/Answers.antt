@@ -1,5 +1,4 @@
 -- Every number read from no bytes is 0.
-use borrow.Author.Needs.{needs}
 use native.Mathlib.Omega.{arith}
 use mathlib.Core.Path.{refl}
 use Rattle.rcm.specs.Format.{u16-at, u32-at}

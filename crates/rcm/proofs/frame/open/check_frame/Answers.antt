@@ -1,12 +1,10 @@
 -- Each check that passes adds its number to what has passed; the first that fails is the first fault of the file.
-use mathlib.Core.List.{List}
-use mathlib.Core.Path.{_≡_, ap, subst}
+use mathlib.Core.Path.{ap, subst}
 use Rattle.std.proofs.shelf.Results.{err-from-errBy}
 use Rattle.rcm.specs.declared.faults.Cause.the-variants.{Opening, Sections}
 use Rattle.rcm.specs.declared.records.Head.{Head}
 use Rattle.rcm.specs.Faults.{layer}
 use Rattle.rcm.specs.Format.{version-1}
-use Rattle.rcm.specs.Layout.{head-of}
 use Rattle.rcm.specs.Checks.{HeaderPart, HeaderRule}
 use Rattle.rcm.specs.Laws.Rules.{framed-by}
 use Rattle.rcm.proofs.Order.{fault-of, after-length, after-opening, after-header, after-sections}

@@ -6,10 +6,9 @@ use mathlib.Core.List.{List}
 use Prim.Native.Nat.{ℕ, _+_, _-_}
 use lib.ListN.{length, length-drop, take, drop}
 use lib.Seq.{take-all}
-use Rattle.rcm.specs.declared.records.Head.{Head}
 use Rattle.rcm.specs.Format.{u16-at, u32-at}
 use Rattle.rcm.specs.Layout.{head-of}
-use Rattle.rcm.specs.Checks.{OpeningPart, Mark, Version}
+use Rattle.rcm.specs.Checks.{Mark, Version}
 use Rattle.rcm.proofs.Numbers.{u16-drop, u32-drop}
 use Rattle.rcm.proofs.frame.open.check_opening.Needs as need
 

@@ -1,10 +1,8 @@
 -- An action that the state has stands in its section, since the counts of a file that passed add up.
 use native.Mathlib.Omega.{arith}
-use mathlib.Core.Path.{_≡_, refl, _∙_, sym, ap, ap₂}
-use mathlib.Core.List.{List, []}
-use Prim.Native.Nat.{ℕ, _+_, _<_, _≤_}
-use Rattle.process.specs.Process.{Action}
-use Rattle.rcm.specs.declared.records.ActionRecord.{ActionRecord}
+use mathlib.Core.Path.{_≡_, refl, _∙_, sym, ap}
+use mathlib.Core.List.{List}
+use Prim.Native.Nat.{ℕ, _+_, _<_}
 use Rattle.rcm.specs.declared.records.StateRecord.{StateRecord}
 use Rattle.rcm.specs.Format.{version-1}
 use Rattle.rcm.specs.Layout.{state-told, action-record, action-told, outcome, action-of}

@@ -1,7 +1,5 @@
-use mathlib.Core.List.{List}
-use mathlib.Core.Path.{_≡_, _∙_, sym, ap}
+use mathlib.Core.Path.{_∙_, sym, ap}
 use lib.ListN.{length}
-use Rattle.process.specs.Process.{Action}
 use Rattle.rcm.specs.declared.records.StateRecord.{StateRecord}
 use Rattle.rcm.specs.Format.{version-1}
 use Rattle.rcm.specs.Layout.{state-told, action}

@@ -41,7 +41,7 @@ fn check_action(action: ActionRecord, a: u32, before: u32) -> Result<(), FieldFa
 }
 
 /// Checks the actions' section. Gives the sum of the actions' numbers of outcomes.
-pub fn check_actions(file: &Framed) -> Result<u32, RecordFault>
+pub(crate) fn check_actions(file: &Framed) -> Result<u32, RecordFault>
     ensures { λ r. ⌜ (let b = bytes-of (now (file .entry)) in
         Checked version-1 b ActionField (λ n. (n ≡ sum-below (outcome-count version-1 b) (actions b)) × Holds (actions b) (ActionsRule version-1 b)) r) ⌝ }
 {

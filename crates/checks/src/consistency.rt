@@ -66,7 +66,7 @@ fn check_state(file: &Framed, s: u32) -> Result<(), RecordFault>
     Ok(())
 }
 
-pub fn check_consistency(file: &Framed) -> Result<(), RecordFault>
+pub(crate) fn check_consistency(file: &Framed) -> Result<(), RecordFault>
     requires { ⌜ Filled version-1 (bytes-of (now file)) ⌝ }
     ensures { λ r. ⌜ (let b = bytes-of (now (file .entry)) in
         Checked version-1 b Consistency (λ _. Holds (actions b) (ConsistencyRule version-1 b)) r) ⌝ }

@@ -12,7 +12,11 @@ use rcm::Framed;
 use rcm::RecordFault;
 
 /// Takes the sum of the states' numbers of actions, and of the actions' numbers of outcomes.
-pub fn check_counts(file: &Framed, of_states: u32, of_actions: u32) -> Result<(), RecordFault>
+pub(crate) fn check_counts(
+    file: &Framed,
+    of_states: u32,
+    of_actions: u32,
+) -> Result<(), RecordFault>
     requires framed { ⌜ WellFramed version-1 (bytes-of (now file)) ⌝ }
     requires states { ⌜ «of_states» ≡ sum-below (action-count version-1 (bytes-of (now file))) (states (bytes-of (now file))) ⌝ }
     requires actions { ⌜ «of_actions» ≡ sum-below (outcome-count version-1 (bytes-of (now file))) (actions (bytes-of (now file))) ⌝ }

@@ -39,7 +39,7 @@ fn check_outcome(outcome: OutcomeRecord, o: u32, known: u32) -> Result<(), Field
 }
 
 /// Checks the outcomes' section.
-pub fn check_outcomes(file: &Framed) -> Result<(), RecordFault>
+pub(crate) fn check_outcomes(file: &Framed) -> Result<(), RecordFault>
     requires { ⌜ 1 ≤ states (bytes-of (now file)) ⌝ }
     ensures { λ r. ⌜ (let b = bytes-of (now (file .entry)) in
         Checked version-1 b OutcomeField (λ _. Holds (outcomes b) (OutcomesRule version-1 b)) r) ⌝ }

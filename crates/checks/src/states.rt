@@ -55,7 +55,7 @@ fn check_state(state: StateRecord, s: u32, price: u32, before: u32) -> Result<()
 }
 
 /// Checks the states' section. Gives the sum of the states' numbers of actions.
-pub fn check_states(file: &Framed) -> Result<u32, RecordFault>
+pub(crate) fn check_states(file: &Framed) -> Result<u32, RecordFault>
     ensures { λ r. ⌜ (let b = bytes-of (now (file .entry)) in
         Checked version-1 b StateField (λ n. (n ≡ sum-below (action-count version-1 b) (states b)) × Holds (states b) (StatesRule version-1 b)) r) ⌝ }
 {

@@ -29,7 +29,7 @@ fn weights_of(file: &Framed, action: ActionRecord) -> u64
     sum
 }
 
-pub fn check_weights(file: &Framed) -> Result<(), RecordFault>
+pub(crate) fn check_weights(file: &Framed) -> Result<(), RecordFault>
     requires { ⌜ Filled version-1 (bytes-of (now file)) ⌝ }
     ensures { λ r. ⌜ (let b = bytes-of (now (file .entry)) in
         Checked version-1 b Weights (λ _. Holds (actions b) (WeightsRule version-1 b)) r) ⌝ }

@@ -115,7 +115,7 @@ fn write_over(bytes: &mut Vec<u8>, place: Place, value: u32) -> Result<(), Fail>
 }
 
 /// A copy of the file with the changes.
-pub fn changed(heap: Global, base: &Base, changes: &[Change]) -> Result<Vec<u8>, Fail> {
+pub(crate) fn changed(heap: Global, base: &Base, changes: &[Change]) -> Result<Vec<u8>, Fail> {
     let mut bytes = base.bytes.to_vec(heap)?;
     for change in changes {
         match change {
@@ -141,7 +141,7 @@ fn load_verdict(bytes: &[u8]) -> Verdict {
     }
 }
 
-pub fn check_load(bytes: &[u8], expected: Verdict) -> Result<(), Fail> {
+pub(crate) fn check_load(bytes: &[u8], expected: Verdict) -> Result<(), Fail> {
     check_eq(load_verdict(bytes), expected)
 }
 
@@ -150,7 +150,7 @@ fn try_case(heap: Global, base: &Base, Case(changes, expected): Case) -> Result<
     check_load(&bytes, expected)
 }
 
-pub fn try_cases(heap: Global, base: &Base, cases: &[Case]) -> Result<(), Fail> {
+pub(crate) fn try_cases(heap: Global, base: &Base, cases: &[Case]) -> Result<(), Fail> {
     for (i, case) in cases.iter().enumerate() {
         try_case(heap, base, *case).note(format_args!("case {i}"))?;
     }

@@ -5,7 +5,7 @@ use Prim.Native.Nat.{ℕ, _<_, _≤_}
 use native.Mathlib.Decide.{decLt}
 use native.Mathlib.Nat.{mul-le-mul-left}
 use native.Mathlib.Omega.{arith}
-use Rattle.rcm.specs.declared.faults.Cause.the-variants.{Consistency}
+use Rattle.faults.specs.declared.Cause.the-variants.{Consistency}
 use Rattle.rcm.specs.Format.{Format}
 use Rattle.rcm.specs.Layout.{states, action-byte, state-record, action-count}
 use Rattle.rcm.specs.Checks.{whole, Has, Consistent, FirstAction}

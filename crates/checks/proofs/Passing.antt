@@ -3,7 +3,7 @@ use mathlib.Core.Path.{_≡_}
 use mathlib.Core.List.{List}
 use mathlib.Core.Logic.{inl, inr}
 use Prim.Native.Nat.{ℕ}
-use Rattle.rcm.specs.declared.faults.Cause.the-variants.{StateField, ActionField, OutcomeField, Counts, Weights, Consistency}
+use Rattle.faults.specs.declared.Cause.the-variants.{StateField, ActionField, OutcomeField, Counts, Weights, Consistency}
 use Rattle.rcm.specs.Format.{Format}
 use Rattle.rcm.specs.Layout.{states, actions, outcomes, state-byte, action-byte, outcome-byte, action-count, outcome-count, sum-below}
 use Rattle.rcm.specs.Checks.{StatesRule, state-offset, ActionsRule, action-offset, OutcomesRule, outcome-offset, WeightsRule, ConsistencyRule, whole-offset}

@@ -5,9 +5,9 @@ use mathlib.Core.Logic.{inl, inr}
 use Prim.Native.Nat.{ℕ, _+_}
 use native.Mathlib.Decide.{decLt}
 use native.Mathlib.Omega.{arith}
-use Rattle.rcm.specs.declared.faults.Cause.{Cause}
-use Rattle.rcm.specs.declared.faults.Cause.the-variants.{Length, Opening, Header, Sections, StateField, ActionField, OutcomeField, Counts, Weights, Consistency}
-use Rattle.rcm.specs.Faults.{number}
+use Rattle.faults.specs.declared.Cause.{Cause}
+use Rattle.faults.specs.declared.Cause.the-variants.{Length, Opening, Header, Sections, StateField, ActionField, OutcomeField, Counts, Weights, Consistency}
+use Rattle.faults.specs.Causes.{number}
 use Rattle.rcm.specs.Format.{Format, Proper}
 use Rattle.rcm.specs.Layout.{head-of, states, actions-byte, outcomes-byte, action-byte}
 use Rattle.rcm.specs.Checks.{Fails, OneFirstFault}

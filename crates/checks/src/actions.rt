@@ -2,22 +2,22 @@
 
 ghost use mathlib.Core.Path.{_≡_};
 ghost use Prim.Native.Nat.{_+_, _<_};
-ghost use Rattle.rcm.specs.declared.faults.Place.the-variants.{InAction};
-ghost use Rattle.rcm.specs.declared.faults.Cause.the-variants.{ActionField};
+ghost use Rattle.faults.specs.declared.Place.the-variants.{InAction};
+ghost use Rattle.faults.specs.declared.Cause.the-variants.{ActionField};
 ghost use Rattle.rcm.specs.Format.{version-1};
 ghost use Rattle.rcm.specs.Layout.{actions, outcome-count, sum-below};
 ghost use Rattle.rcm.specs.Checks.{ActionRule, ActionsRule, action-offset};
 ghost use Rattle.rcm.specs.Checking.{RecordChecked, Checked, Holds};
 ghost use Rattle.checks.specs.Contents.{bytes-of};
+use faults::FieldFault;
+use faults::Place;
+use faults::RecordFault;
+use faults::RecordFromField;
+use faults::limited;
 use rcm::ActionRecord;
-use rcm::FieldFault;
 use rcm::Framed;
-use rcm::Place;
-use rcm::RecordFault;
-use rcm::RecordFromField;
 use rcm::format::COST_MOST;
 use rcm::format::OUTCOMES_OF_ACTION_MOST;
-use rcm::limited;
 
 /// Checks the fields of an action, after so many outcomes of the actions before it.
 fn check_action(action: ActionRecord, a: u32, before: u32) -> Result<(), FieldFault>

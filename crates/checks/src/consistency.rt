@@ -4,17 +4,17 @@ ghost use mathlib.Core.Path.{_≡_};
 ghost use Prim.Native.Nat.{ℕ, _+_, _*_, _<_, _≤_};
 ghost use Rattle.std.specs.Results.{Cases};
 ghost use Rattle.process.specs.Process.{weighted};
-ghost use Rattle.rcm.specs.declared.faults.Cause.the-variants.{Consistency};
+ghost use Rattle.faults.specs.declared.Cause.the-variants.{Consistency};
 ghost use Rattle.rcm.specs.Format.{version-1};
 ghost use Rattle.rcm.specs.Layout.{states, actions, outcomes, action-byte, state-record, estimate, outcomes-of};
 ghost use Rattle.rcm.specs.Checks.{Has, Consistent, ConsistencyRule};
 ghost use Rattle.rcm.specs.Checking.{Checked, Holds};
 ghost use Rattle.checks.specs.Contents.{bytes-of};
 ghost use Rattle.checks.specs.Filling.{Filled, FirstInconsistent};
+use faults::Cause;
+use faults::RecordFault;
 use rcm::ActionRecord;
-use rcm::Cause;
 use rcm::Framed;
-use rcm::RecordFault;
 use rcm::format::TOTAL;
 
 /// The sum of weight times estimate over an action's outcomes.

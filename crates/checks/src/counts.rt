@@ -2,14 +2,14 @@
 
 ghost use mathlib.Core.Path.{_≡_};
 ghost use Prim.Native.Nat.{_+_, _<_};
-ghost use Rattle.rcm.specs.declared.faults.Cause.the-variants.{Counts};
+ghost use Rattle.faults.specs.declared.Cause.the-variants.{Counts};
 ghost use Rattle.rcm.specs.Format.{version-1};
 ghost use Rattle.rcm.specs.Layout.{states, actions, outcomes, action-count, outcome-count, sum-below};
 ghost use Rattle.rcm.specs.Checking.{WellFramed, Checked};
 ghost use Rattle.checks.specs.Contents.{bytes-of};
-use rcm::Cause;
+use faults::Cause;
+use faults::RecordFault;
 use rcm::Framed;
-use rcm::RecordFault;
 
 /// Takes the sum of the states' numbers of actions, and of the actions' numbers of outcomes.
 pub(crate) fn check_counts(

@@ -9,8 +9,8 @@ ghost use Rattle.rcm.specs.Checks.{Sound, FirstFault};
 ghost use Rattle.rcm.specs.Checking.{Passed, Tried};
 ghost use Rattle.checks.specs.Contents.{bytes-of};
 ghost use Rattle.checks.specs.Filling.{Filled};
+use faults::RecordFault;
 use rcm::Framed;
-use rcm::RecordFault;
 
 mod actions;
 mod consistency;

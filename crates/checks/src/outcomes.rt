@@ -1,21 +1,21 @@
 //! The outcomes' section: the check of an outcome, and of all.
 
 ghost use Prim.Native.Nat.{_+_, _<_, _≤_};
-ghost use Rattle.rcm.specs.declared.faults.Place.the-variants.{InOutcome};
-ghost use Rattle.rcm.specs.declared.faults.Cause.the-variants.{OutcomeField};
+ghost use Rattle.faults.specs.declared.Place.the-variants.{InOutcome};
+ghost use Rattle.faults.specs.declared.Cause.the-variants.{OutcomeField};
 ghost use Rattle.rcm.specs.Format.{version-1};
 ghost use Rattle.rcm.specs.Layout.{states, outcomes};
 ghost use Rattle.rcm.specs.Checks.{OutcomeRule, OutcomesRule, outcome-offset};
 ghost use Rattle.rcm.specs.Checking.{RecordChecked, Checked, Holds};
 ghost use Rattle.checks.specs.Contents.{bytes-of};
-use rcm::FieldFault;
+use faults::FieldFault;
+use faults::Place;
+use faults::RecordFault;
+use faults::RecordFromField;
+use faults::limited;
 use rcm::Framed;
 use rcm::OutcomeRecord;
-use rcm::Place;
-use rcm::RecordFault;
-use rcm::RecordFromField;
 use rcm::format::TOTAL;
-use rcm::limited;
 
 /// Checks the fields of an outcome, in a file with so many states.
 fn check_outcome(outcome: OutcomeRecord, o: u32, known: u32) -> Result<(), FieldFault>

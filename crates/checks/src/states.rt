@@ -2,21 +2,21 @@
 
 ghost use mathlib.Core.Path.{_≡_};
 ghost use Prim.Native.Nat.{_+_, _<_};
-ghost use Rattle.rcm.specs.declared.faults.Place.the-variants.{InState};
-ghost use Rattle.rcm.specs.declared.faults.Cause.the-variants.{StateField};
+ghost use Rattle.faults.specs.declared.Place.the-variants.{InState};
+ghost use Rattle.faults.specs.declared.Cause.the-variants.{StateField};
 ghost use Rattle.rcm.specs.Format.{version-1};
 ghost use Rattle.rcm.specs.Layout.{states, action-count, sum-below};
 ghost use Rattle.rcm.specs.Checks.{StateRule, StatesRule, state-offset, unless-terminal};
 ghost use Rattle.rcm.specs.Checking.{RecordChecked, Checked, Holds};
 ghost use Rattle.checks.specs.Contents.{bytes-of};
-use rcm::FieldFault;
+use faults::FieldFault;
+use faults::Place;
+use faults::RecordFault;
+use faults::RecordFromField;
+use faults::limited;
 use rcm::Framed;
-use rcm::Place;
-use rcm::RecordFault;
-use rcm::RecordFromField;
 use rcm::StateRecord;
 use rcm::format::ACTIONS_OF_STATE_MOST;
-use rcm::limited;
 
 /// A limit that is 0 for a terminal state.
 fn unless_terminal(state: StateRecord, most: u32) -> u32

@@ -3,17 +3,17 @@
 ghost use mathlib.Core.Path.{_≡_};
 ghost use Prim.Native.Nat.{_+_, _<_, _≤_};
 ghost use Rattle.process.specs.Process.{weights};
-ghost use Rattle.rcm.specs.declared.faults.Cause.the-variants.{Weights};
+ghost use Rattle.faults.specs.declared.Cause.the-variants.{Weights};
 ghost use Rattle.rcm.specs.Format.{version-1};
 ghost use Rattle.rcm.specs.Layout.{actions, outcomes, outcomes-of};
 ghost use Rattle.rcm.specs.Checks.{WeightsRule};
 ghost use Rattle.rcm.specs.Checking.{Checked, Holds};
 ghost use Rattle.checks.specs.Contents.{bytes-of};
 ghost use Rattle.checks.specs.Filling.{Filled};
+use faults::Cause;
+use faults::RecordFault;
 use rcm::ActionRecord;
-use rcm::Cause;
 use rcm::Framed;
-use rcm::RecordFault;
 use rcm::format::TOTAL;
 
 /// The sum of the weights of an action's outcomes.

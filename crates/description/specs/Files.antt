@@ -4,10 +4,10 @@ use mathlib.Core.Bool.{true}
 use mathlib.Core.List.{List, _++_}
 use mathlib.Core.Logic.{_⊎_}
 use Prim.Native.Nat.{ℕ}
-use Rattle.rcm.specs.declared.faults.LoadFault.{LoadFault}
+use Rattle.faults.specs.declared.LoadFault.{LoadFault}
 use Rattle.rcm.specs.Format.{version-1}
 use Rattle.rcm.specs.Layout.{decoded}
-use Rattle.rcm.specs.Faults.{layer, refusal-text}
+use Rattle.faults.specs.Causes.{layer, refusal-text}
 use Rattle.rcm.specs.Checks.{Sound, FirstFault}
 use Rattle.description.specs.Texts.{feed, described}
 

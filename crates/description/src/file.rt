@@ -4,7 +4,7 @@ ghost use Rattle.std.specs.Of.String.{string-bytes};
 ghost use Rattle.std.specs.Vec.{made};
 ghost use Rattle.description.specs.Files.{Reported};
 use crate::model::describe;
-use rcm::faults::LoadFaultDisplay;
+use faults::LoadFaultDisplay;
 use std::alloc::AllocError;
 use std::alloc::Global;
 use table::Table;

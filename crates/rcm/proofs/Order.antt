@@ -7,10 +7,10 @@ use native.Mathlib.Decide.{decLt}
 use native.Mathlib.Omega.{arith}
 use lib.Dec.{lit<}
 use lib.ListN.{getD}
-use Rattle.rcm.specs.declared.faults.Cause.{Cause}
-use Rattle.rcm.specs.declared.faults.Cause.the-variants.{Length, Opening, Header, Sections, StateField, ActionField, OutcomeField, Counts, Weights, Consistency}
-use Rattle.rcm.specs.declared.faults.RecordFault.{RecordFault}
-use Rattle.rcm.specs.Faults.{number}
+use Rattle.faults.specs.declared.Cause.{Cause}
+use Rattle.faults.specs.declared.Cause.the-variants.{Length, Opening, Header, Sections, StateField, ActionField, OutcomeField, Counts, Weights, Consistency}
+use Rattle.faults.specs.declared.RecordFault.{RecordFault}
+use Rattle.faults.specs.Causes.{number}
 use Rattle.rcm.specs.Format.{Format}
 use Rattle.rcm.specs.Layout.{head-of}
 use Rattle.rcm.specs.Checks.{Fails, Clear, Sound, FirstFault, Before, whole, LengthRule, OpeningPart, OpeningRule, HeaderPart, HeaderRule, SectionsRule}

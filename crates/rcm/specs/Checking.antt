@@ -5,11 +5,11 @@ use Prim.Native.Nat.{ℕ, _+_, _-_, _<_, _≤_}
 use lib.ListN.{length}
 use Rattle.std.specs.declared.result.Result.{Result}
 use Rattle.std.specs.Results.{Cases}
-use Rattle.rcm.specs.declared.faults.Cause.{Cause}
-use Rattle.rcm.specs.declared.faults.FieldFault.{FieldFault}
-use Rattle.rcm.specs.declared.faults.Place.{Place}
-use Rattle.rcm.specs.declared.faults.RecordFault.{RecordFault}
-use Rattle.rcm.specs.Faults.{number}
+use Rattle.faults.specs.declared.Cause.{Cause}
+use Rattle.faults.specs.declared.FieldFault.{FieldFault}
+use Rattle.faults.specs.declared.Place.{Place}
+use Rattle.faults.specs.declared.RecordFault.{RecordFault}
+use Rattle.faults.specs.Causes.{number}
 use Rattle.rcm.specs.Format.{Format}
 use Rattle.rcm.specs.Layout.{states, start, actions, outcomes, price, sections-end}
 use Rattle.rcm.specs.Checks.{Fails, Clear, FirstFault}

@@ -7,18 +7,16 @@ use Prim.Native.Nat.{ℕ, _+_, _*_, _<_, _≤_}
 use lib.ListN.{length, getD}
 use lib.Dec.{eqb}
 use Rattle.process.specs.Process.{weights, weighted}
-use Rattle.rcm.specs.declared.faults.Cause.{Cause}
-use Rattle.rcm.specs.declared.faults.Cause.the-variants.{Length, Opening, Header, Sections, StateField, ActionField, OutcomeField, Counts, Weights, Consistency}
+use Rattle.faults.specs.declared.Cause.{Cause}
+use Rattle.faults.specs.declared.Cause.the-variants.{Length, Opening, Header, Sections, StateField, ActionField, OutcomeField, Counts, Weights, Consistency}
 use Rattle.rcm.specs.declared.records.Head.{Head}
 use Rattle.rcm.specs.declared.records.StateRecord.{StateRecord}
 use Rattle.rcm.specs.declared.records.ActionRecord.{ActionRecord}
 use Rattle.rcm.specs.declared.records.OutcomeRecord.{OutcomeRecord}
-use Rattle.rcm.specs.Faults.{number}
+use Rattle.faults.specs.Causes.{number}
+use Rattle.faults.specs.Limits.{Within}
 use Rattle.rcm.specs.Format.{Format, u16-at}
 use Rattle.rcm.specs.Layout.{head-of, is-terminal, states, actions, outcomes, price, state-byte, action-byte, outcome-byte, sections-end, state-record, action-record, outcome-record, estimate, action-count, outcome-count, outcomes-of, sum-below}
-
-abbrev pub Within : ℕ → ℕ → ℕ → Type 0
-Within low high value = (low ≤ value) × (value ≤ high)
 
 -- ## The fields with a rule, and where they stand in their record
 

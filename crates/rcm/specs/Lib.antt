@@ -1,6 +1,5 @@
 pub mod Format
 pub mod Layout
-pub mod Faults
 pub mod Checks
 pub mod Checking
 pub mod Laws

@@ -1,8 +1,8 @@
 //! A case: a file with some changes, and what its load is to say.
 
 use crate::files::Base;
-use rcm::Layer;
-use rcm::LoadFault;
+use faults::Layer;
+use faults::LoadFault;
 use std::alloc::Global;
 use std::test::*;
 use table::Table;

@@ -1,4 +1,5 @@
-//! Tests of the table file: a file at each limit loads, and one just past it is refused with its first fault.
+//! Tests of the table file: a file at each limit loads, and one just past it is refused with its first fault; what is told
+//! and printed of a file.
 
 #[cfg(test)]
 mod case;
@@ -12,3 +13,5 @@ mod order;
 mod questions;
 #[cfg(test)]
 mod sizes;
+#[cfg(test)]
+mod texts;

@@ -1,6 +1,6 @@
 use mathlib.Core.Path.{sym, _∙_}
 use Rattle.std.proofs.shelf.Results.{err-from-errBy, cases-weaker}
-use Rattle.rcm.specs.declared.faults.Cause.the-variants.{StateField, ActionField, OutcomeField, Counts}
+use Rattle.faults.specs.declared.Cause.the-variants.{StateField, ActionField, OutcomeField, Counts}
 use Rattle.rcm.specs.Format.{version-1}
 use Rattle.rcm.proofs.Order.{fault-of}
 use Rattle.checks.specs.Laws.Sound.{passed-framed}

@@ -1,5 +1,5 @@
 use Rattle.std.proofs.shelf.Results.{err-from-errBy, cases-weaker}
-use Rattle.rcm.specs.declared.faults.Cause.the-variants.{Weights, Consistency}
+use Rattle.faults.specs.declared.Cause.the-variants.{Weights, Consistency}
 use Rattle.rcm.specs.Format.{version-1}
 use Rattle.rcm.proofs.Order.{fault-of, all-passed}
 use Rattle.checks.proofs.Passing.{after-weights, after-consistency}

@@ -6,7 +6,7 @@ use Prim.Native.Nat.{ℕ, _+_, _-_, _<_}
 use native.Mathlib.Decide.{decLe}
 use native.Mathlib.Omega.{arith}
 use lib.Dec.{lit<}
-use Rattle.rcm.specs.declared.faults.Cause.the-variants.{Header, Sections, StateField, ActionField, OutcomeField, Counts, Weights, Consistency}
+use Rattle.faults.specs.declared.Cause.the-variants.{Header, Sections, StateField, ActionField, OutcomeField, Counts, Weights, Consistency}
 use Rattle.rcm.specs.Format.{Format}
 use Rattle.rcm.specs.Layout.{head-of, states, actions, outcomes, state-byte, action-byte, outcome-byte, outcome-count}
 use Rattle.rcm.specs.Checks.{Clear, Sound, HeaderRule, header-offset, SectionsRule, StatesRule, state-offset, ActionsRule, action-offset, OutcomesRule, outcome-offset, WeightsRule, ConsistencyRule, whole, whole-offset, States, Start, Actions, Outcomes, Price, Kind, Estimate, FirstAction, ActionCount, Cost, FirstOutcome, OutcomeCount, Target, Weight}

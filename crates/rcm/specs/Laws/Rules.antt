@@ -7,9 +7,10 @@ use native.Mathlib.Decide.{decLe}
 use native.Mathlib.Omega.{arith}
 use borrow.Author.Tests.{eq-eqb}
 use lib.Dec.{eqb}
+use Rattle.faults.specs.Limits.{Within}
 use Rattle.rcm.specs.Format.{Format}
 use Rattle.rcm.specs.Layout.{head-of, actions, outcomes}
-use Rattle.rcm.specs.Checks.{Within, Broken, HeaderPart, HeaderRule, SectionsRule, whole, States, Start, Actions, Outcomes, Price}
+use Rattle.rcm.specs.Checks.{Broken, HeaderPart, HeaderRule, SectionsRule, whole, States, Start, Actions, Outcomes, Price}
 use Rattle.rcm.specs.Checking.{Holds, WellFramed}
 
 -- a rule that is not broken holds

@@ -3,15 +3,15 @@
 ghost use mathlib.Core.List.{[]};
 ghost use mathlib.Core.Path.{_≡_};
 ghost use Rattle.std.specs.Results.{Cases};
-ghost use Rattle.rcm.specs.Faults.{layer as layer-of};
+ghost use Rattle.faults.specs.Causes.{layer as layer-of};
 ghost use Rattle.rcm.specs.Format.{version-1};
 ghost use Rattle.rcm.specs.Layout.{told, decoded};
 ghost use Rattle.rcm.specs.Checks.{Sound, FirstFault, OneFirstFault};
 use crate::table::Table;
 use checks::check;
+use faults::LoadFault;
+use faults::LoadFromRecord;
 use rcm::Framed;
-use rcm::LoadFault;
-use rcm::LoadFromRecord;
 
 impl<'a> Table<'a> {
     /// A table with nothing. It is out of order.

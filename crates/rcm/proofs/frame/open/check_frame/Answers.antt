@@ -1,9 +1,9 @@
 -- Each check that passes adds its number to what has passed; the first that fails is the first fault of the file.
 use mathlib.Core.Path.{ap, subst}
 use Rattle.std.proofs.shelf.Results.{err-from-errBy}
-use Rattle.rcm.specs.declared.faults.Cause.the-variants.{Opening, Sections}
+use Rattle.faults.specs.declared.Cause.the-variants.{Opening, Sections}
 use Rattle.rcm.specs.declared.records.Head.{Head}
-use Rattle.rcm.specs.Faults.{layer}
+use Rattle.faults.specs.Causes.{layer}
 use Rattle.rcm.specs.Format.{version-1}
 use Rattle.rcm.specs.Checks.{HeaderPart, HeaderRule}
 use Rattle.rcm.specs.Laws.Rules.{framed-by}

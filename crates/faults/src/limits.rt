@@ -2,8 +2,8 @@
 
 ghost use mathlib.Core.Path.{_≡_};
 ghost use Rattle.std.specs.Results.{Cases};
-ghost use Rattle.rcm.specs.Checks.{Within};
-use crate::faults::FieldFault;
+ghost use Rattle.faults.specs.Limits.{Within};
+use crate::FieldFault;
 
 /// Passes exactly if the value is within its limits; the fault is told as it is given.
 pub fn limited(value: u32, low: u32, high: u32, fault: FieldFault) -> Result<(), FieldFault>

@@ -1,12 +1,17 @@
-//! Why a file is refused: a field's fault, the record's fault that it becomes, and the load's fault, with its layer.
+//! Why a table file is refused: a field's fault, the record's fault that it becomes, and the load's fault, with its layer.
+//! The number, layer and text of each cause are in specs/Causes.antt.
 
 ghost use mathlib.Core.Path.{_≡_};
 ghost use Rattle.std.specs.declared.option.Option.the-variants.{Some};
-ghost use Rattle.rcm.specs.Faults.{number, layer as layer-of, cause as cause-of, layer-text, refusal-text};
+ghost use Rattle.faults.specs.Causes.{number, layer as layer-of, cause as cause-of, layer-text, refusal-text};
 use std::fmt;
 
+mod limits;
+
+pub use limits::limited;
+
 /// What is wrong, in the order of the checks.
-#[derive(Clone, Copy, PartialEq, Eq, Debug)]
+#[derive(Clone, Copy)]
 pub enum Cause {
     Length,
     Opening,
@@ -21,7 +26,7 @@ pub enum Cause {
 }
 
 /// How deep a check looks: at the file as a whole, at its records one by one, or at the rules of the model.
-#[derive(Clone, Copy, PartialEq, Eq, Debug)]
+#[derive(Clone, Copy)]
 pub enum Layer {
     File,
     Record,
@@ -46,7 +51,7 @@ pub struct FieldFault {
 }
 
 /// A check fails at a record, or at the file as a whole (record 0), and at a byte.
-#[derive(Clone, Copy, PartialEq, Eq, Debug)]
+#[derive(Clone, Copy)]
 pub struct RecordFault {
     pub cause: Cause,
     pub record: u32,
@@ -54,7 +59,7 @@ pub struct RecordFault {
 }
 
 /// A load is refused: the first fault, whole, and its layer.
-#[derive(Clone, Copy, PartialEq, Eq, Debug)]
+#[derive(Clone, Copy)]
 pub struct LoadFault {
     pub layer: Layer,
     pub fault: RecordFault,

@@ -3,13 +3,13 @@ use mathlib.Core.List.{List, _++_}
 use Prim.Native.Nat.{ℕ}
 use lib.Chars.{codes}
 use Rattle.std.specs.Written.{decimal}
-use Rattle.rcm.specs.declared.faults.Cause.{Cause}
-use Rattle.rcm.specs.declared.faults.Cause.the-variants.{Length, Opening, Header, Sections, StateField, ActionField, OutcomeField, Counts, Weights, Consistency}
-use Rattle.rcm.specs.declared.faults.Layer.{Layer}
-use Rattle.rcm.specs.declared.faults.Layer.the-variants.{File, Record, Rule}
-use Rattle.rcm.specs.declared.faults.LoadFault.{LoadFault}
-use Rattle.rcm.specs.declared.faults.Place.{Place}
-use Rattle.rcm.specs.declared.faults.Place.the-variants.{InHeader, InState, InAction, InOutcome}
+use Rattle.faults.specs.declared.Cause.{Cause}
+use Rattle.faults.specs.declared.Cause.the-variants.{Length, Opening, Header, Sections, StateField, ActionField, OutcomeField, Counts, Weights, Consistency}
+use Rattle.faults.specs.declared.Layer.{Layer}
+use Rattle.faults.specs.declared.Layer.the-variants.{File, Record, Rule}
+use Rattle.faults.specs.declared.LoadFault.{LoadFault}
+use Rattle.faults.specs.declared.Place.{Place}
+use Rattle.faults.specs.declared.Place.the-variants.{InHeader, InState, InAction, InOutcome}
 
 abbrev pub number : Cause → ℕ
 number Length = 1

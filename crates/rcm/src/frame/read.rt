@@ -1,4 +1,4 @@
-//! Reads the header and the records of a framed file. The only file that knows where the fields stand.
+//! Reads the header and the records of a framed file. A record comes with its first byte.
 
 ghost use mathlib.Core.Path.{_≡_};
 ghost use Prim.Native.Nat.{_+_, _<_};

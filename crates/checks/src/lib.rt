@@ -1,6 +1,8 @@
 //! The checks of a table file, in their order: `check` takes a file exactly if it keeps the layout, and else tells the
 //! first fault. What each check asks is in the crate `rcm`, specs/Checks.antt.
 
+#![tactic(auto)]
+
 ghost use Rattle.std.specs.Prelude.{◌≡◌, ◌<◌, MatchResult};
 ghost use Rattle.rcm.specs.Format.{version_1};
 ghost use Rattle.rcm.specs.Checks.{Sound, FirstFault};

@@ -1,6 +1,8 @@
 //! Prints the model in recall.rcm as text, or why the file is refused. Only reads and prints: the text is made by
 //! `describe_file`.
 
+#![tactic(auto)]
+
 use description::describe_file;
 use std::io::{ErrorKind, Read};
 use std::{fs, io};

@@ -1,6 +1,8 @@
 //! Why a table file is refused: a field's fault, the record's fault that it becomes, and the load's fault, with its layer.
 //! The number, layer and text of each cause are in specs/Causes.antt.
 
+#![tactic(auto)]
+
 ghost use Rattle.std.specs.Prelude.{◌≡◌, Some};
 ghost use Rattle.faults.specs.Causes.{number, layer as layer_of, cause as cause_of, layer_text, refusal_text};
 

@@ -2,6 +2,8 @@
 //! whole-model answer, what policies cost, and the promises that hold after any calls, with their proofs. The code here is
 //! only the words that a planner answers in. Read the specs in the order Plan, Steps, Answer, Policies, Promises.
 
+#![tactic(auto)]
+
 ghost use Rattle.std.specs.Prelude.{◌≡◌};
 ghost use Rattle.planning.specs.Refusals.{number};
 

@@ -1,6 +1,8 @@
 //! What a decision process is, the trait of what tells one, and the valuations of its actions. Read specs/Process.antt
 //! first, then specs/Valuation.antt.
 
+#![tactic(auto)]
+
 ghost use Rattle.std.specs.Prelude.{◌≡◌, Bool, true, length};
 ghost use Rattle.process.specs.Process.{Process, Told, InOrder, action_at, outcome_at};
 

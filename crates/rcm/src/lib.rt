@@ -1,6 +1,8 @@
 //! The table file: its layout, what each of its checks asks, and a file whose frame is in order, to read records from.
 //! Read specs/ in the order Format, Layout, Checks.
 
+#![tactic(auto)]
+
 mod bytes;
 pub mod format;
 pub mod frame;

@@ -1,6 +1,8 @@
 //! Tests of the table file: a file at each limit loads, and one just past it is refused with its first fault; what is told
 //! and printed of a file.
 
+#![tactic(auto)]
+
 #[cfg(test)]
 mod case;
 #[cfg(test)]

@@ -16,7 +16,7 @@ loop-a-preserved c =
     let a = c.loop-a.a in
     let known : a < actions b = omega (arith, ap (λ (h : Head). h.actions) c.head.ensures) in
     let action : c.action-action.result ≡ action_record version_1 b a = c.action-action.ensures ∙ action_here version_1 b a known in
-    let rules = c.in-ok-check-action.ensures.1 in (
+    let rules = c.in_ok-check_action.ensures.1 in (
       omega (arith, sum_more (outcome_count version_1 b) a, ap (λ (r : ActionRecord). r.count) action),
       omega arith,
       below_more _ _ c.loop-a.invariant.2 (simp (c.loop-a.invariant.0, action) at rules),

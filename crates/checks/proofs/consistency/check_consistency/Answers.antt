@@ -5,8 +5,8 @@ use Rattle.rcm.specs.Format.{version_1}
 use Rattle.checks.proofs.Estimates.{first_consistency}
 use Rattle.checks.proofs.consistency.check_consistency.Goals as goal
 
-pub returns-in-err-check-state : goal.returns-in-err-check-state
-returns-in-err-check-state c =
-    let p = err_from_is_err_and c.from-residual.result c.from-residual.ensures.1 in
-    let e = c.in-err-check-state.ensures in
+pub returns-in_err-check_state : goal.returns-in_err-check_state
+returns-in_err-check_state c =
+    let p = err_from_is_err_and c.from_residual.result c.from_residual.ensures.1 in
+    let e = c.in_err-check_state.ensures in
     rw (p.1, p.2) (e.0, first_consistency version_1 _ c.requires c.loop-s.s _ _ (omega (arith, ap (λ (h : Head). h.states) c.head.ensures)) c.loop-s.invariant e.1)

@@ -5,8 +5,8 @@ use Rattle.rcm.specs.Laws.Told.{state_here}
 use Rattle.checks.specs.Laws.Inside.{actions_inside}
 use Rattle.checks.proofs.consistency.check_state.Goals as goal
 
-pub check-action-requires : goal.check-action-requires
-check-action-requires c =
+pub check_action-requires : goal.check_action-requires
+check_action-requires c =
     let state = c.state-state.ensures ∙ state_here version_1 _ c.args.s c.requires.known in
     record {
       filled = c.requires.filled;

@@ -36,8 +36,8 @@ module _ (c : goal.After-from-in-loop-k-2) where
   part_small : c.from-in-loop-k.result * c.from-in-loop-k-2.result ≤ 4294967295000
   part_small = mul-le-mul {n₂ = 1000} {m₂ = 4294967295} (omega (arith, weight_is, c.requires.filled.outcomes_hold o known Weight)) (omega arith)
 
-pub overflow-add-sum : goal.overflow-add-sum
-overflow-add-sum c = omega (arith, part_small c)
+pub overflow_add-sum : goal.overflow_add-sum
+overflow_add-sum c = omega (arith, part_small c)
 
 pub loop-k-preserved : goal.loop-k-preserved
 loop-k-preserved c =

@@ -17,13 +17,13 @@ some_action b framed wrong =
           absurd (omega (arith, wrong, sum_zero (outcome_count version_1 b) (actions b) none, framed.outcomes_none none))
     ]
 
-pub overflow-sub-last-then-of-actions-from : goal.overflow-sub-last-then-of-actions-from
-overflow-sub-last-then-of-actions-from c =
+pub overflow_sub-last-then-of_actions-from : goal.overflow_sub-last-then-of_actions-from
+overflow_sub-last-then-of_actions-from c =
     let heads = ap (λ (h : Head). h.outcomes) c.head-head.ensures in
     omega (arith, some_action _ c.requires.framed (omega (arith, heads)), ap (λ (h : Head). h.actions) c.head-head.ensures)
 
-pub returns-then-of-actions-from : goal.returns-then-of-actions-from
-returns-then-of-actions-from c =
+pub returns-then-of_actions-from : goal.returns-then-of_actions-from
+returns-then-of_actions-from c =
     let heads = ap (λ (h : Head). h.outcomes) c.head-head.ensures in
     let some : 1 ≤ actions c.args.file.now.bytes.now = some_action _ c.requires.framed (omega (arith, heads)) in
     search rules

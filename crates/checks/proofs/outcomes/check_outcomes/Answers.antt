@@ -12,5 +12,5 @@ loop-o-preserved c =
     let known : o < outcomes b = omega (arith, ap (λ (h : Head). h.outcomes) c.head-head.ensures) in
     let outcome : c.outcome.result ≡ outcome_record version_1 b o = c.outcome.ensures ∙ outcome_here version_1 b o known in
     let count : c.from.result ≡ states b = c.from.ensures ∙ ap (λ (h : Head). h.states) c.head-head.ensures in
-    let rules = c.in-ok-check-outcome.ensures.1 in
+    let rules = c.in_ok-check_outcome.ensures.1 in
     below_more _ _ c.loop-o.invariant (simp (count, outcome) at rules)

@@ -17,7 +17,7 @@ loop-s-preserved c =
     let known : s < states b = omega (arith, ap (λ (h : Head). h.states) c.head-head.ensures) in
     let state : c.state-state.result ≡ state_record version_1 b s = c.state-state.ensures ∙ state_here version_1 b s known in
     let cost : c.head-head.result.price ≡ price b = ap (λ (h : Head). h.price) c.head-head.ensures in
-    let rules = c.in-ok-check-state.ensures.1 in (
+    let rules = c.in_ok-check_state.ensures.1 in (
       omega (arith, sum_more (action_count version_1 b) s, ap (λ (r : StateRecord). r.count) state),
       omega arith,
       below_more _ _ c.loop-s.invariant.2 (simp (cost, c.loop-s.invariant.0, state) at rules),

@@ -15,22 +15,22 @@ use Rattle.checks.proofs.weights.check_weights.Goals as goal
 known : (b : List ℕ) (h : Head) (a n : ℕ) → h ≡ head_of b → n ≡ h.actions → a < n → a < actions b
 known b h a n e e' lt = omega (arith, ap (λ (x : Head). x.actions) e)
 
-pub weights-of-requires : goal.weights-of-requires
-weights-of-requires c =
+pub weights_of-requires : goal.weights_of-requires
+weights_of-requires c =
     let b = c.args.file.now.bytes.now in
     let here = known b _ c.loop-a.a _ c.head.ensures c.from-a-end.ensures c.loop-a-test.true in
     simp (c.action-action.ensures ∙ action_here version_1 b _ here) (outcomes_inside version_1 b c.requires c.loop-a.a here)
 
-pub returns-then-weights-of-from : goal.returns-then-weights-of-from
-returns-then-weights-of-from c =
+pub returns-then-weights_of-from : goal.returns-then-weights_of-from
+returns-then-weights_of-from c =
     let b = c.args.file.now.bytes.now in
     let a = c.loop-a.a in
     let here = known b _ a _ c.head.ensures c.from-a-end.ensures c.loop-a-test.true in
     let action = c.action-action.ensures ∙ action_here version_1 b a here in
-    let sum = c.weights-of.ensures ∙ ap (λ (r : ActionRecord). weights (outcomes_of version_1 b r)) action in
+    let sum = c.weights_of.ensures ∙ ap (λ (r : ActionRecord). weights (outcomes_of version_1 b r)) action in
     let first = first_broken (actions b) (action_byte version_1 b) whole_offset (WeightsRule version_1 b) (λ r r' p h. omega arith)
     a (action_byte version_1 b a) here c.loop-a.invariant
-    (record { part = whole; here = omega arith; broken = λ rule. c.if-weights-of-from.true (sum ∙ rule ∙ sym c.from.ensures); before = λ p h. absurd (omega arith) }) in
+    (record { part = whole; here = omega arith; broken = λ rule. c.if-weights_of-from.true (sum ∙ rule ∙ sym c.from.ensures); before = λ p h. absurd (omega arith) }) in
     simp (c.fault.ensures, ap (λ (r : ActionRecord). r.byte) action) (refl, record { fails = first.0; none_before = first.1 })
 
 pub loop-a-preserved : goal.loop-a-preserved
@@ -38,8 +38,8 @@ loop-a-preserved c =
     let b = c.args.file.now.bytes.now in
     let here = known b _ c.loop-a.a _ c.head.ensures c.from-a-end.ensures c.loop-a-test.true in
     let action = c.action-action.ensures ∙ action_here version_1 b _ here in
-    let sum = c.weights-of.ensures ∙ ap (λ (r : ActionRecord). weights (outcomes_of version_1 b r)) action in
-    below_more _ _ c.loop-a.invariant (λ p. sym sum ∙ c.if-weights-of-from.false ∙ c.from.ensures)
+    let sum = c.weights_of.ensures ∙ ap (λ (r : ActionRecord). weights (outcomes_of version_1 b r)) action in
+    below_more _ _ c.loop-a.invariant (λ p. sym sum ∙ c.if-weights_of-from.false ∙ c.from.ensures)
 
 pub returns : goal.returns
 returns c = λ r h p. c.loop-a.invariant r (omega (arith, ap (λ (h : Head). h.actions) c.head.ensures)) p

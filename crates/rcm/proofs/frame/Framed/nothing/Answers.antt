@@ -3,6 +3,9 @@ use Rattle.std.proofs.Common.{refl, arith}
 use Rattle.rcm.specs.Format.{u16_at, u32_at}
 use Rattle.rcm.proofs.frame.Framed.nothing.Goals as goal
 
-pub invariant-of-result : goal.invariant-of-result
+pub invariant_of-result : goal.invariant_of-result
 unfolding u16_at u32_at
-invariant-of-result c = ((omega arith, omega arith, omega arith, omega arith), (refl, tt))
+invariant_of-result c = record {
+  framed = (omega arith, omega arith, omega arith, omega arith);
+  headed = refl;
+}

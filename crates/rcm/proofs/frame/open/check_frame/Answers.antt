@@ -10,25 +10,25 @@ use Rattle.rcm.specs.Laws.Rules.{framed_by}
 use Rattle.rcm.proofs.Order.{fault_of, after_length, after_opening, after_header, after_sections}
 use Rattle.rcm.proofs.frame.open.check_frame.Goals as goal
 
-pub returns-in-err-head : goal.returns-in-err-head
-returns-in-err-head c =
-    let p = err_from_is_err_and c.from-residual-in-err-head.result c.from-residual-in-err-head.ensures.1 in
-    let fault = c.in-err-head.ensures in
-    rw (p.1, p.2) (ap layer fault.0, fault_of version_1 _ Opening _ (after_length version_1 _ c.in-ok-check-length.ensures) fault)
+pub returns-in_err-head : goal.returns-in_err-head
+returns-in_err-head c =
+    let p = err_from_is_err_and c.from_residual-in_err-head.result c.from_residual-in_err-head.ensures.1 in
+    let fault = c.in_err-head.ensures in
+    rw (p.1, p.2) (ap layer fault.0, fault_of version_1 _ Opening _ (after_length version_1 _ c.in_ok-check_length.ensures) fault)
 
-pub returns-in-err-check-sections : goal.returns-in-err-check-sections
-returns-in-err-check-sections c =
-    let p = err_from_is_err_and c.from-residual-in-err-check-sections.result c.from-residual-in-err-check-sections.ensures.1 in
-    let opened = c.in-ok-head.ensures in
-    let passed-3 = after_opening version_1 _ (after_length version_1 _ c.in-ok-check-length.ensures) opened.1 in
-    let header = subst (λ (h : Head). (p : HeaderPart) → HeaderRule version_1 h p) opened.0 c.in-ok-check-header.ensures.1 in
-    let fault = c.in-err-check-sections.ensures in
+pub returns-in_err-check_sections : goal.returns-in_err-check_sections
+returns-in_err-check_sections c =
+    let p = err_from_is_err_and c.from_residual-in_err-check_sections.result c.from_residual-in_err-check_sections.ensures.1 in
+    let opened = c.in_ok-head.ensures in
+    let passed-3 = after_opening version_1 _ (after_length version_1 _ c.in_ok-check_length.ensures) opened.1 in
+    let header = subst (λ (h : Head). (p : HeaderPart) → HeaderRule version_1 h p) opened.0 c.in_ok-check_header.ensures.1 in
+    let fault = c.in_err-check_sections.ensures in
     rw (p.1, p.2) (ap layer fault.0, fault_of version_1 _ Sections _ (after_header version_1 _ passed-3 header) fault)
 
 pub returns : goal.returns
 returns c =
-    let opened = c.in-ok-head.ensures in
-    let passed-3 = after_opening version_1 _ (after_length version_1 _ c.in-ok-check-length.ensures) opened.1 in
-    let header = subst (λ (h : Head). (p : HeaderPart) → HeaderRule version_1 h p) opened.0 c.in-ok-check-header.ensures.1 in
-    let sections = c.in-ok-check-sections.ensures in
+    let opened = c.in_ok-head.ensures in
+    let passed-3 = after_opening version_1 _ (after_length version_1 _ c.in_ok-check_length.ensures) opened.1 in
+    let header = subst (λ (h : Head). (p : HeaderPart) → HeaderRule version_1 h p) opened.0 c.in_ok-check_header.ensures.1 in
+    let sections = c.in_ok-check_sections.ensures in
     (opened.0, framed_by version_1 _ header sections, after_sections version_1 _ (after_header version_1 _ passed-3 header) sections)

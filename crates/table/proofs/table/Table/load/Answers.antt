@@ -7,8 +7,8 @@ use Rattle.table.proofs.table.Table.load.Goals as goal
 
 pub returns : goal.returns
 returns c =
-    let checked = c.in-ok-check.ensures in
+    let checked = c.in_ok-check.ensures in
     record {
       told = (checked.0, checked.1, ap (told version_1) checked.1 ∙ sound_told version_1 _ checked.0);
-      one_first_fault = unique.one-first-fault version_1 proper_1;
+      one_first_fault = unique.one_first_fault version_1 proper_1;
     }

@@ -5,7 +5,7 @@ ghost use Rattle.description.specs.Files.{Reported};
 
 use crate::model::describe;
 use std::alloc::{AllocError, Global};
-use table::{Table, TableModel};
+use table::Table;
 
 /// The text that describes the model of a file, or the line of its refusal; an error only for want of memory.
 pub fn describe_file<'a>(heap: Global, bytes: &'a [u8]) -> Result<String, AllocError>

@@ -7,7 +7,7 @@ use planning::Advice::*;
 use planning::Phase::*;
 use planning::{Call, Refusal};
 use std::process::Abort;
-use table::{Table, TableModel};
+use table::Table;
 
 /// A call, and its answer.
 type Exchange = (Call, Result<Answer, Refusal>);

@@ -5,4 +5,4 @@
 
 mod table;
 
-pub use table::{Table, TableModel};
+pub use table::Table;

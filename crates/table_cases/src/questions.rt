@@ -8,7 +8,7 @@ use Question::*;
 use process::Model;
 use std::process::Abort;
 use std::test::Fail;
-use table::{Table, TableModel};
+use table::Table;
 
 #[derive(Clone, Copy, Debug)]
 enum Question {

@@ -7,11 +7,11 @@ ghost use Rattle.rcm.specs.Layout.{told, some_bytes, outcomes, action_of};
 ghost use Rattle.table.specs.Laws.Telling.{table_told};
 
 use crate::table::Table;
-use process::Model;
+use process::Model as ProcessModel;
 use rcm::ActionRecord;
 use rcm::format::TOTAL;
 
-pub impl Model for Table<'_> as TableModel {
+impl ProcessModel for Table<'_> {
     ghost process = { λ t. told version_1 t.file.bytes.now };
 
     ghost ordered = { λ t. some_bytes t.file.bytes.now };

@@ -5,7 +5,7 @@ use Rattle.rcm.specs.Format.{version_1}
 use Rattle.rcm.specs.Layout.{outcome, outcomes, outcome_record, outcome_told}
 use Rattle.rcm.specs.Laws.Runs.{run_at, run_past}
 use Rattle.rcm.specs.Laws.Told.{outcome_here}
-use Rattle.table.proofs.table.model.TableModel.outcome.Goals as goal
+use Rattle.table.proofs.table.model.TableProcessModel.outcome.Goals as goal
 
 pub returns-then-k-from : goal.returns-then-k-from
 returns-then-k-from c =

@@ -4,7 +4,7 @@ use Rattle.rcm.specs.Format.{version_1}
 use Rattle.rcm.specs.Layout.{state_told, action}
 use Rattle.rcm.specs.Laws.Runs.{run_length}
 use Rattle.table.specs.Laws.Telling.{actions_told}
-use Rattle.table.proofs.table.model.TableModel.actions.Goals as goal
+use Rattle.table.proofs.table.model.TableProcessModel.actions.Goals as goal
 
 pub returns : goal.returns
 returns c =

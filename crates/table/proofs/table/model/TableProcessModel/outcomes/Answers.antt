@@ -3,7 +3,7 @@ use Rattle.process.specs.Process.{Action}
 use Rattle.rcm.specs.Format.{version_1}
 use Rattle.rcm.specs.Layout.{outcome}
 use Rattle.rcm.specs.Laws.Runs.{run_length}
-use Rattle.table.proofs.table.model.TableModel.outcomes.Goals as goal
+use Rattle.table.proofs.table.model.TableProcessModel.outcomes.Goals as goal
 
 pub returns : goal.returns
 returns c =

@@ -5,7 +5,6 @@ ghost use Rattle.description.specs.Texts.{action_text, described, header, kind_w
 
 use process::Model;
 use std::alloc::{AllocError, Global};
-use std::fmt;
 
 /// The text that describes the model, or an error for want of memory.
 pub fn describe<M: Model>(heap: Global, model: &M) -> Result<String, AllocError>
@@ -15,15 +14,13 @@ pub fn describe<M: Model>(heap: Global, model: &M) -> Result<String, AllocError>
         return String::from_str(heap, "out of order\n");
     }
     let mut text = String::new(heap);
-    match write_process(&mut text, model) {
-        Ok(()) => Ok(text),
-        Err(_) => Err(AllocError),
-    }
+    write_process(&mut text, model)?;
+    Ok(text)
 }
 
 // The functions below each append one part of the text.
 
-fn write_process<M: Model>(text: &mut String, model: &M) -> fmt::Result
+fn write_process<M: Model>(text: &mut String, model: &M) -> Result<(), AllocError>
     ensures { OnOk result (string_bytes text.new ≡ string_bytes text.old ++ process_text (M.Model.process model.now)) }
 {
     write_header(text, model)?;
@@ -33,7 +30,7 @@ fn write_process<M: Model>(text: &mut String, model: &M) -> fmt::Result
     Ok(())
 }
 
-fn write_header<M: Model>(text: &mut String, model: &M) -> fmt::Result
+fn write_header<M: Model>(text: &mut String, model: &M) -> Result<(), AllocError>
     ensures { OnOk result (string_bytes text.new ≡ string_bytes text.old ++ header (M.Model.process model.now)) }
 {
     write_number(text, "states", model.states())?;
@@ -43,13 +40,13 @@ fn write_header<M: Model>(text: &mut String, model: &M) -> fmt::Result
     Ok(())
 }
 
-fn write_number(text: &mut String, name: &str, number: u32) -> fmt::Result
+fn write_number(text: &mut String, name: &str, number: u32) -> Result<(), AllocError>
     ensures { OnOk result (string_bytes text.new ≡ string_bytes text.old ++ number_line name.now number) }
 {
     writeln!(text, "{name} {number}")
 }
 
-fn write_state<M: Model>(text: &mut String, model: &M, s: u32) -> fmt::Result
+fn write_state<M: Model>(text: &mut String, model: &M, s: u32) -> Result<(), AllocError>
     ensures { OnOk result (string_bytes text.new ≡ string_bytes text.old ++ state_text (M.Model.process model.now) s) }
 {
     let kind = kind_of(model.terminal(s));
@@ -66,7 +63,7 @@ fn kind_of(terminal: bool) -> &'static str
     if terminal { "ending" } else { "open" }
 }
 
-fn write_action<M: Model>(text: &mut String, model: &M, s: u32, a: u32) -> fmt::Result
+fn write_action<M: Model>(text: &mut String, model: &M, s: u32, a: u32) -> Result<(), AllocError>
     ensures { OnOk result (string_bytes text.new ≡ string_bytes text.old ++ action_text (M.Model.process model.now) s a) }
 {
     writeln!(text, "  action {a} cost {}", model.cost(s, a))?;

@@ -126,7 +126,7 @@ pub(crate) fn changed(heap: Global, base: &Base, changes: &[Change]) -> Result<V
     Ok(bytes)
 }
 
-fn load_verdict(bytes: &[u8]) -> Verdict {
+pub(crate) fn load_verdict(bytes: &[u8]) -> Verdict {
     let mut table = Table::nothing();
     match table.load(bytes) {
         Ok(()) => Verdict::Loads,
@@ -141,19 +141,16 @@ fn load_verdict(bytes: &[u8]) -> Verdict {
     }
 }
 
-pub(crate) fn check_load(rt: &impl Abort, bytes: &[u8], expected: Verdict) -> Result<(), Fail> {
-    assert_eq!(rt; load_verdict(bytes), expected);
-    Ok(())
-}
-
 fn try_case(
     rt: &impl Abort,
     heap: Global,
     base: &Base,
+    i: usize,
     Case(changes, expected): Case,
 ) -> Result<(), Fail> {
     let bytes = changed(heap, base, changes)?;
-    check_load(rt, &bytes, expected)
+    assert_eq!(rt; load_verdict(&bytes), expected, "case {i}");
+    Ok(())
 }
 
 pub(crate) fn try_cases(
@@ -163,7 +160,7 @@ pub(crate) fn try_cases(
     cases: &[Case],
 ) -> Result<(), Fail> {
     for (i, case) in cases.iter().enumerate() {
-        try_case(rt, heap, base, *case).note(format_args!("case {i}"))?;
+        try_case(rt, heap, base, i, *case)?;
     }
     Ok(())
 }

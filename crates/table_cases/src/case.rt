@@ -3,6 +3,7 @@
 use crate::files::Base;
 use faults::{Layer, LoadFault};
 use std::alloc::Global;
+use std::fmt;
 use std::process::Abort;
 use std::test::Fail;
 use table::Table;
@@ -126,7 +127,7 @@ pub(crate) fn changed(heap: Global, base: &Base, changes: &[Change]) -> Result<V
     Ok(bytes)
 }
 
-pub(crate) fn load_verdict(bytes: &[u8]) -> Verdict {
+fn load_verdict(bytes: &[u8]) -> Verdict {
     let mut table = Table::nothing();
     match table.load(bytes) {
         Ok(()) => Verdict::Loads,
@@ -141,6 +142,15 @@ pub(crate) fn load_verdict(bytes: &[u8]) -> Verdict {
     }
 }
 
+pub(crate) fn check_load(
+    rt: &impl Abort,
+    bytes: &[u8],
+    expected: Verdict,
+    which: &impl fmt::Debug,
+) {
+    assert_eq!(rt; load_verdict(bytes), expected, "case {which:?}");
+}
+
 fn try_case(
     rt: &impl Abort,
     heap: Global,
@@ -149,7 +159,7 @@ fn try_case(
     Case(changes, expected): Case,
 ) -> Result<(), Fail> {
     let bytes = changed(heap, base, changes)?;
-    assert_eq!(rt; load_verdict(&bytes), expected, "case {i}");
+    check_load(rt, &bytes, expected, &i);
     Ok(())
 }
 

@@ -1,7 +1,7 @@
 //! Files of many records, up to the header's limits.
 
 use crate::case::Verdict::*;
-use crate::case::{Verdict, load_verdict};
+use crate::case::{Verdict, check_load};
 use std::alloc::{AllocError, Global};
 use std::test::Fail;
 
@@ -111,7 +111,7 @@ fn file_of(heap: Global, shape: Shape) -> Result<Vec<u8>, AllocError> {
 fn sizes_up_to_the_limits(rt: HostRuntime) -> Result<(), Fail> {
     for (shape, expected) in CASES {
         let bytes = file_of(rt.alloc(), shape)?;
-        assert_eq!(&rt; load_verdict(&bytes), expected, "{shape:?}");
+        check_load(&rt, &bytes, expected, &shape);
     }
     Ok(())
 }

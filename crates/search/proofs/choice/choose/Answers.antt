@@ -8,8 +8,8 @@ loop-a-init g c = least_none _ _ _ c.price-least.ensures
 
 pub loop-a-preserved : goal.loop-a-preserved
 loop-a-preserved g c = elim c.if-value-from.branch [
-  | then-value-from w ↦ simp (w.action-is, w.least-is) (least_found _ _ _ _ _ c.loop-a.invariant _ c.action-value-value.ensures (omega arith))
-  | else-value-from w ↦ simp (w.action-is, w.least-is) (least_kept _ _ _ _ _ c.loop-a.invariant (omega (arith, c.action-value-value.ensures)))
+  | then-value-from w ↦ simp (w.action-is, w.least-is) (least_found _ _ _ _ _ c.loop-a.invariant _ c.action_value-value.ensures (omega arith))
+  | else-value-from w ↦ simp (w.action-is, w.least-is) (least_kept _ _ _ _ _ c.loop-a.invariant (omega (arith, c.action_value-value.ensures)))
 ]
 
 pub returns : goal.returns

@@ -14,8 +14,8 @@ count-tally-requires g c = omega (arith, c.loop-made.invariant.as_many)
 pub loop-made-preserved : goal.loop-made-preserved
 loop-made-preserved g c = ran_more _ _ _ _ _ _ _ c.loop-made.invariant _ _ _ c.in-Some.ensures c.make.ensures c.count-tally.ensures
 
-pub returns-in-default : goal.returns-in-default
-returns-in-default g c = worked_early _ _ _ _ _ _ _ c.loop-made.invariant _ c.loop-made-test.true c.in-default.ensures
+pub returns-in_default : goal.returns-in_default
+returns-in_default g c = worked_early _ _ _ _ _ _ _ c.loop-made.invariant _ c.loop-made-test.true c.in_default.ensures
 
 pub returns : goal.returns
 returns g c = worked_all _ _ _ _ _ _ _ c.loop-made.invariant _ (omega arith) c.loop-made-test.false

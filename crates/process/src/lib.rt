@@ -20,7 +20,7 @@ pub trait Model {
     ghost ordered: { Self → Bool };
 
     /// The law that every model owes, with its proof: it is in order exactly if the rules hold of what it tells, and
-    /// otherwise tells nothing. (A `law` would say the same, but gets no proof in an `impl` with a lifetime.)
+    /// otherwise tells nothing.
     ghost told: { (m : Self) → Told (process m) (ordered m) };
 
     /// Whether the rules hold of what the model tells.

@@ -19,10 +19,6 @@ pub trait Model {
 
     ghost ordered: { Self → Bool };
 
-    /// The law that every model owes, with its proof: it is in order exactly if the rules hold of what it tells, and
-    /// otherwise tells nothing.
-    ghost told: { (m : Self) → Told (process m) (ordered m) };
-
     /// Whether the rules hold of what the model tells.
     fn in_order(&self) -> bool
         ensures { result ≡ ordered self.now };
@@ -66,6 +62,10 @@ pub trait Model {
     /// An outcome of an action: the state that it leads to, and its weight.
     fn outcome(&self, s: u32, a: u32, k: u32) -> (u32, u32)
         ensures { result ≡ outcome_at (action_at (process self.now) s a) k };
+
+    /// The law that every model owes, with its proof: it is in order exactly if the rules hold of what it tells, and
+    /// otherwise tells nothing.
+    ghost told: { (m : Self) → Told (process m) (ordered m) };
 }
 
 /// Whether the six rules hold of what the model tells: what `in_order` means, from the law of the model.

@@ -34,10 +34,7 @@ pub trait Valuing {
 fn quotient(n: u64, divisor: u32) -> u64
     ensures { result ≡ n / divisor }
 {
-    if divisor == 0 {
-        return 0;
-    }
-    n / u64::from(divisor)
+    n.checked_div(u64::from(divisor)).unwrap_or(0)
 }
 
 /// The cost and the average, rounded down once.

@@ -6,7 +6,7 @@ pub loop-made-init : goal.loop-made-init
 loop-made-init g c = ran_none _ _ _ _
 
 pub make-requires : goal.make-requires
-make-requires g c = next_within _ _ _ _ (g.M.Model.told c.args.model.now) _ _ c.in-Some.ensures
+make-requires g c = next_within _ _ _ _ (g.met.M.Model.told c.args.model.now) _ _ c.in-Some.ensures
 
 pub count-tally-requires : goal.count-tally-requires
 count-tally-requires g c = omega (arith, c.loop-made.invariant.as_many)

@@ -4,7 +4,7 @@ use Rattle.search.proofs.Walking.{nothing_listed, walked_start, walked_more, wal
 use Rattle.search.proofs.walk.planned.Goals as goal
 
 pub add-requires : goal.add-requires
-add-requires g c = record { within = omega (arith, c.start.ensures, start_within _ _ (g.M.Model.told c.args.model.now)); listed = nothing_listed }
+add-requires g c = record { within = omega (arith, c.start.ensures, start_within _ _ (g.met.M.Model.told c.args.model.now)); listed = nothing_listed }
 
 pub loop-done-init : goal.loop-done-init
 loop-done-init g c = walked_start _ _ _ _ _ c.start.ensures c.add.ensures

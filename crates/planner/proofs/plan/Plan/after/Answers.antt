@@ -17,6 +17,6 @@ loop-call-preserved g c =
 pub returns : goal.returns
 returns g c = record {
   model = c.loop-call.invariant.same ∙ c.begin-plan.ensures.model;
-  kept = λ e. kept _ ((g.M.Model.told c.args.model).in_order e) _ _ (followed_all _ _ _ _ _ c.begin-plan.ensures.model _ _ _ c.loop-call.invariant c.loop-call-test.false e);
+  kept = λ e. kept _ ((g.met.M.Model.told c.args.model).in_order e) _ _ (followed_all _ _ _ _ _ c.begin-plan.ensures.model _ _ _ c.loop-call.invariant c.loop-call-test.false e);
   untouched = followed_untouched _ _ _ _ _ c.begin-plan.ensures.model _ _ _ c.loop-call.invariant;
 }

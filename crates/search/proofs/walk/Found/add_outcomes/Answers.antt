@@ -8,7 +8,7 @@ loop-k-init g c = outcomes_none _ _ c.requires.listed
 
 pub add-requires : goal.add-requires
 add-requires g c =
-    let action = taken _ _ (g.M.Model.told c.args.model.now) _ _ c.requires.within in
+    let action = taken _ _ (g.met.M.Model.told c.args.model.now) _ _ c.requires.within in
     record {
       within = omega (arith, action.places c.loop-k.k (omega (arith, c.outcomes-k-end.ensures)), ap (λ (o : ℕ × ℕ). o.0) c.outcome-to.ensures);
       listed = c.loop-k.invariant.listed;

@@ -1,4 +1,3 @@
-pub mod Offsets
 pub mod Sections
 pub mod Estimates
 pub mod Passing

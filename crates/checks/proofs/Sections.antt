@@ -1,8 +1,11 @@
 -- Faults of a section's records: from its fields' rules to the checks, and the first fault.
 use Rattle.std.proofs.Common.{◌≡◌, ℕ, ◌+◌, ◌<◌, subst, arith}
 use native.Mathlib.Decide.{dec_lt}
-use Rattle.rcm.specs.Checks.{Broken}
-use Rattle.rcm.specs.Checking.{Holds, FirstPart}
+use Rattle.std.specs.Prelude.{List, ◌↔◌}
+use Rattle.faults.specs.declared.Cause.{Cause}
+use Rattle.rcm.specs.Format.{Format}
+use Rattle.rcm.specs.Checks.{Fails, Broken}
+use Rattle.rcm.specs.Checking.{Holds, FirstPart, First}
 
 module _ {Part : Type 0} (count : ℕ) (first_byte : ℕ → ℕ) (offset : Part → ℕ) (rule : ℕ → Part → Type 0) where
   -- where every rule holds, none is broken
@@ -29,3 +32,11 @@ module _ {Part : Type 0} (count : ℕ) (first_byte : ℕ → ℕ) (offset : Part
               | no h' ↦ same r' k' (omega arith) lt p at broken
             ]
           ]
+
+  -- and the first fault of the section's cause
+  pub first_fails : (F : Format) (b : List ℕ) (c : Cause) → ((r k : ℕ) → Fails F b c r k ↔ Broken count first_byte offset rule r k) →
+      ((r r' : ℕ) (p : Part) → r < r' → first_byte r + offset p < first_byte r') →
+      (r k : ℕ) → r < count → Holds r rule → FirstPart (first_byte r) offset (rule r) k → First F b c r k
+  first_fails F b c fails apart r k known before first =
+      let broken = first_broken apart r k known before first in
+      record { fails = (fails r k).1 broken.0; none_before = λ r' k' lt f. broken.1 r' k' lt ((fails r' k').0 f) }

@@ -8,7 +8,7 @@ use Rattle.rcm.specs.Format.{Format, Proper}
 use Rattle.rcm.specs.Layout.{head_of, states, actions_byte, outcomes_byte, action_byte}
 use Rattle.rcm.specs.Checks.{Fails, OneFirstFault}
 use Rattle.rcm.proofs.Order.{same_cause}
-use Rattle.checks.proofs.Offsets.{state_offset_low, action_offset_low, outcome_offset_low, grows, same_record}
+use Rattle.checks.specs.Laws.Offsets.{state_offset_low, action_offset_low, outcome_offset_low, grows, same_record}
 
 module _ (F : Format) (proper : Proper F) (b : List ℕ) (r r' k : ℕ) where
   -- an action's record begins at one byte only

@@ -4,7 +4,7 @@ ghost use Rattle.std.specs.Prelude.{◌≡◌, ◌+◌, ◌<◌};
 ghost use Rattle.faults.specs.declared.Cause.TheVariants.{Counts};
 ghost use Rattle.rcm.specs.Format.{version_1};
 ghost use Rattle.rcm.specs.Layout.{states, actions, outcomes, action_count, outcome_count, sum_below};
-ghost use Rattle.rcm.specs.Checking.{WellFramed, Checked};
+ghost use Rattle.rcm.specs.Checking.{Checked};
 ghost use Rattle.checks.specs.Contents.{bytes_of};
 
 use faults::{Cause, RecordFault};
@@ -16,7 +16,6 @@ pub(crate) fn check_counts(
     of_states: u32,
     of_actions: u32,
 ) -> Result<(), RecordFault>
-    requires framed { WellFramed version_1 (bytes_of file.now) }
     requires states { of_states ≡ sum_below (action_count version_1 (bytes_of file.now)) (states (bytes_of file.now)) }
     requires actions { of_actions ≡ sum_below (outcome_count version_1 (bytes_of file.now)) (actions (bytes_of file.now)) }
     ensures { let b = bytes_of file.now in

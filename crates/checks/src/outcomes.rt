@@ -1,48 +1,55 @@
-//! The outcomes' section: the check of an outcome, and of all.
+//! The outcomes' section, the last: an outcome has no records of a next one.
 
-ghost use Rattle.std.specs.Prelude.{◌+◌, ◌<◌, ◌≤◌};
 ghost use Rattle.faults.specs.declared.Place.TheVariants.{InOutcome};
-ghost use Rattle.faults.specs.declared.Cause.TheVariants.{OutcomeField};
 ghost use Rattle.rcm.specs.Format.{version_1};
-ghost use Rattle.rcm.specs.Layout.{states, outcomes};
-ghost use Rattle.rcm.specs.Checks.{OutcomeRule, OutcomesRule, outcome_offset};
-ghost use Rattle.rcm.specs.Checking.{RecordChecked, Checked, Holds};
-ghost use Rattle.checks.specs.Contents.{bytes_of};
+ghost use Rattle.rcm.specs.Layout.{outcomes, outcome_byte};
+ghost use Rattle.rcm.specs.Checks.{OutcomePart, OutcomesRule, outcome_offset};
+ghost use Rattle.checks.specs.Laws.Offsets.{outcomes_apart};
 
-use faults::{FieldFault, Place, RecordFault, limited};
+use crate::section::Section;
+use faults::{FieldFault, Place, limited};
 use rcm::format::TOTAL;
 use rcm::{Framed, OutcomeRecord};
 
-/// Checks the fields of an outcome, in a file with so many states.
-fn check_outcome(outcome: OutcomeRecord, o: u32, known: u32) -> Result<(), FieldFault>
-    requires some_state { 1 ≤ known }
-    requires placed { outcome.byte < 65536 }
-    ensures { RecordChecked InOutcome o outcome.byte outcome_offset (OutcomeRule version_1 known outcome) (λ _. Unit {0}) result }
-{
-    let byte = outcome.byte;
-    limited(
-        u32::from(outcome.state),
-        0,
-        known - 1,
-        Place::InOutcome.fault(o, byte),
-    )?;
-    limited(
-        outcome.weight,
-        1,
-        TOTAL,
-        Place::InOutcome.fault(o, byte + 2),
-    )
-}
+impl Section for OutcomeRecord {
+    ghost Part = { OutcomePart };
 
-/// Checks the outcomes' section.
-pub(crate) fn check_outcomes(file: &Framed) -> Result<(), RecordFault>
-    requires { 1 ≤ states (bytes_of file.now) }
-    ensures { let b = bytes_of file.now in
-        Checked version_1 b OutcomeField (λ _. Holds (outcomes b) (OutcomesRule version_1 b)) result }
-{
-    let head = file.head();
-    for o in 0..u32::from(head.outcomes) {
-        check_outcome(file.outcome(o), o, u32::from(head.states))?;
+    ghost offset = { outcome_offset };
+
+    ghost rule = { OutcomesRule version_1 };
+
+    ghost size = { outcomes };
+
+    ghost first_byte = { outcome_byte version_1 };
+
+    ghost owned = { λ _ _. 0 };
+
+    ghost place = { InOutcome };
+
+    ghost apart = { outcomes_apart };
+
+    ghost fails = { λ b i k. ((λ f. f), (λ f. f)) };
+
+    fn size(file: &Framed) -> u16 {
+        file.head().outcomes
     }
-    Ok(())
+
+    fn check(file: &Framed, o: u32, _before: u32) -> Result<u32, FieldFault> {
+        let outcome = file.outcome(o);
+        let byte = outcome.byte;
+        let last = u32::from(file.head().states) - 1;
+        limited(
+            u32::from(outcome.state),
+            0,
+            last,
+            Place::InOutcome.fault(o, byte),
+        )?;
+        limited(
+            outcome.weight,
+            1,
+            TOTAL,
+            Place::InOutcome.fault(o, byte + 2),
+        )?;
+        Ok(0)
+    }
 }

@@ -12,23 +12,23 @@ mod limits;
 
 pub use limits::limited;
 
-/// What is wrong, in the order of the checks.
-#[derive(Clone, Copy)]
+/// What is wrong, in the order of the checks, by the number that is told of it.
+#[derive(Clone, Copy, PartialEq, Eq, Debug)]
 pub enum Cause {
-    Length,
-    Opening,
-    Header,
-    Sections,
-    StateField,
-    ActionField,
-    OutcomeField,
-    Counts,
-    Weights,
-    Consistency,
+    Length = 1,
+    Opening = 2,
+    Header = 3,
+    Sections = 4,
+    StateField = 5,
+    ActionField = 6,
+    OutcomeField = 7,
+    Counts = 8,
+    Weights = 9,
+    Consistency = 10,
 }
 
 /// How deep a check looks: at the file as a whole, at its records one by one, or at the rules of the model.
-#[derive(Clone, Copy)]
+#[derive(Clone, Copy, PartialEq, Eq, Debug)]
 pub enum Layer {
     File,
     Record,
@@ -36,7 +36,7 @@ pub enum Layer {
 }
 
 /// Where a field stands.
-#[derive(Clone, Copy)]
+#[derive(Clone, Copy, PartialEq, Eq, Debug)]
 pub enum Place {
     InHeader,
     InState,
@@ -45,7 +45,7 @@ pub enum Place {
 }
 
 /// A field is outside its limits.
-#[derive(Clone, Copy)]
+#[derive(Clone, Copy, PartialEq, Eq, Debug)]
 pub struct FieldFault {
     pub place: Place,
     pub record: u32,
@@ -53,7 +53,7 @@ pub struct FieldFault {
 }
 
 /// A check fails at a record, or at the file as a whole (record 0), and at a byte.
-#[derive(Clone, Copy)]
+#[derive(Clone, Copy, PartialEq, Eq, Debug)]
 pub struct RecordFault {
     pub cause: Cause,
     pub record: u32,
@@ -61,7 +61,7 @@ pub struct RecordFault {
 }
 
 /// A load is refused: the first fault, whole, and its layer.
-#[derive(Clone, Copy)]
+#[derive(Clone, Copy, PartialEq, Eq, Debug)]
 pub struct LoadFault {
     pub layer: Layer,
     pub fault: RecordFault,
@@ -82,18 +82,7 @@ impl Cause {
     pub fn code(self) -> u8
         ensures { result ≡ number self }
     {
-        match self {
-            Cause::Length => 1,
-            Cause::Opening => 2,
-            Cause::Header => 3,
-            Cause::Sections => 4,
-            Cause::StateField => 5,
-            Cause::ActionField => 6,
-            Cause::OutcomeField => 7,
-            Cause::Counts => 8,
-            Cause::Weights => 9,
-            Cause::Consistency => 10,
-        }
+        self as u8
     }
 
     pub fn layer(self) -> Layer

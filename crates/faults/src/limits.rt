@@ -9,9 +9,5 @@ use crate::FieldFault;
 pub fn limited(value: u32, low: u32, high: u32, fault: FieldFault) -> Result<(), FieldFault>
     ensures { MatchResult result (λ _. Within low high value) (λ e. (e ≡ fault) × (Within low high value → ⊥)) }
 {
-    if low <= value && value <= high {
-        Ok(())
-    } else {
-        Err(fault)
-    }
+    (low..=high).contains(&value).then_some(()).ok_or(fault)
 }

@@ -1,5 +1,6 @@
 -- The checks in their order: what has passed, and the first fault.
 use Rattle.std.proofs.Common.{◌≡◌, ℕ, ◌+◌, ◌-◌, ◌<◌, List, [], ◌∷◌, get_or, sym, refl, ap, ◌∙◌, subst, inl, inr, arith, lit<}
+use Rattle.std.specs.Prelude.{Result, Ok, Err, IsErrAnd}
 use native.Mathlib.Decide.{dec_lt}
 use Rattle.faults.specs.declared.Cause.{Cause}
 use Rattle.faults.specs.declared.Cause.TheVariants.{Length, Opening, Header, Sections, StateField, ActionField, OutcomeField, Counts, Weights, Consistency}
@@ -8,7 +9,7 @@ use Rattle.faults.specs.Causes.{number}
 use Rattle.rcm.specs.Format.{Format}
 use Rattle.rcm.specs.Layout.{head_of}
 use Rattle.rcm.specs.Checks.{Fails, Clear, Sound, FirstFault, Before, whole, LengthRule, OpeningPart, OpeningRule, HeaderPart, HeaderRule, SectionsRule}
-use Rattle.rcm.specs.Checking.{Passed, First}
+use Rattle.rcm.specs.Checking.{Passed, First, Tried}
 
 abbrev numbered : ℕ → Cause
 numbered n = get_or (Length ∷ Opening ∷ Header ∷ Sections ∷ StateField ∷ ActionField ∷ OutcomeField ∷ Counts ∷ Weights ∷ Consistency ∷ []) (n - 1) Length
@@ -64,6 +65,12 @@ module _ (F : Format) (b : List ℕ) where
   pub fault_of : (c : Cause) (f : RecordFault) → Passed F b (number c) → (f.cause ≡ c) × First F b c f.record f.byte →
       FirstFault F b f.cause f.record f.byte
   fault_of c f passed (e, first) = rw e (first_fault c _ _ passed first)
+
+  -- and it is told unchanged by those that called the check
+  pub passed_on : {X : Type 0} (good : X → Type 0) (r : Result X RecordFault) (c : Cause) (f : RecordFault) →
+      IsErrAnd r (λ e. e ≡ f) → Passed F b (number c) → (f.cause ≡ c) × First F b c f.record f.byte → Tried F b good r
+  passed_on good (Ok x) c f h passed first = absurd h
+  passed_on good (Err e) c f h passed first = rw h (fault_of c f passed first)
 
   -- a check of the file as a whole passes where its rule holds
   pub after_length : LengthRule F b whole → Passed F b 2

@@ -1,5 +1,5 @@
 -- What the parts of the checks tell: the words of the inner contracts.
-use Rattle.std.specs.Prelude.{◌≡◌, ℕ, ◌+◌, ◌-◌, ◌<◌, ◌≤◌, List, length, Result, MatchResult}
+use Rattle.std.specs.Prelude.{◌≡◌, ℕ, ◌+◌, ◌<◌, ◌≤◌, List, length, Result, MatchResult}
 use Rattle.faults.specs.declared.Cause.{Cause}
 use Rattle.faults.specs.declared.FieldFault.{FieldFault}
 use Rattle.faults.specs.declared.Place.{Place}
@@ -42,13 +42,14 @@ Checked F b c good = λ told. MatchResult told good (λ f. (f.cause ≡ c) × Fi
 abbrev pub Tried : {X : Type 0} → Format → List ℕ → (X → Type 0) → Result X RecordFault → Type 0
 Tried F b good = λ told. MatchResult told good (λ f. FirstFault F b f.cause f.record f.byte)
 
--- The numbers of records keep their limits, and the records have room behind the header. No bytes have no records.
+-- There is a state, the numbers of records keep their limits, and the file ends with its last section.
 abbrev pub Frame : Format → List ℕ → Type 0
 Frame F b =
-    (states b ≤ F.states_most)
+    (1 ≤ states b)
+    × (states b ≤ F.states_most)
     × (actions b ≤ F.actions_most)
     × (outcomes b ≤ F.outcomes_most)
-    × (sections_end F b - F.header_width ≤ length b - F.header_width)
+    × (length b ≡ sections_end F b)
 
 -- the header is in order, and the length is that of the sections
 pub record WellFramed (F : Format) (b : List ℕ) : Type 0 where

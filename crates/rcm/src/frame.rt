@@ -1,20 +1,21 @@
-//! A file whose frame is in order: its header keeps its limits, and its length is that of its sections; or nothing.
+//! A file whose frame is in order: its header keeps its limits, and its length is that of its sections.
 
 ghost use Rattle.std.specs.Prelude.{◌≡◌};
 ghost use Rattle.rcm.specs.Format.{version_1};
 ghost use Rattle.rcm.specs.Layout.{head_of};
-ghost use Rattle.rcm.specs.Checking.{Frame};
+ghost use Rattle.rcm.specs.Checking.{Frame, Passed};
 
 mod open;
 mod read;
 
 use crate::records::Head;
 
-/// The type carries the frame, so a record is read without a test but of its number.
+/// The type carries that the checks of the file as a whole pass, so a record is read without a test but of its number.
 #[derive(Clone, Copy)]
 pub struct Framed<'a> {
     bytes: &'a [u8],
     header: Head,
     ghost framed: { Frame version_1 bytes.now },
+    ghost passed: { Passed version_1 bytes.now 5 },
     ghost headed: { header ≡ head_of bytes.now },
 }

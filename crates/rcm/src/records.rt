@@ -1,4 +1,5 @@
-//! The header and the records of a table file, as their numbers. A record also knows its first byte.
+//! The header and the records of a table file, as their numbers. A record also knows its first byte. Zeros, the defaults, are
+//! told of what there is not.
 
 ghost use Rattle.std.specs.Prelude.{◌≡◌};
 ghost use Rattle.rcm.specs.Format.{version_1};
@@ -6,7 +7,7 @@ ghost use Rattle.rcm.specs.Layout.{is_terminal, actions_byte, outcomes_byte, end
 
 use crate::format::{ACTION_WIDTH, HEADER_WIDTH, KIND_TERMINAL, OUTCOME_WIDTH, STATE_WIDTH};
 
-#[derive(Clone, Copy)]
+#[derive(Clone, Copy, Default)]
 pub struct Head {
     pub states: u16,
     pub start: u16,
@@ -16,15 +17,6 @@ pub struct Head {
 }
 
 impl Head {
-    /// What is told of no file.
-    pub const NONE: Head = Head {
-        states: 0,
-        start: 0,
-        actions: 0,
-        outcomes: 0,
-        price: 0,
-    };
-
     /// Where the actions' section begins.
     pub fn actions_byte(self) -> u32
         ensures { result ≡ actions_byte version_1 self }
@@ -48,7 +40,7 @@ impl Head {
 }
 
 /// A state: its kind (0 open, 1 terminal), its estimate, and its actions: the first and how many.
-#[derive(Clone, Copy)]
+#[derive(Clone, Copy, Default)]
 pub struct StateRecord {
     pub byte: u32,
     pub kind: u8,
@@ -58,7 +50,7 @@ pub struct StateRecord {
 }
 
 /// An action: its cost, and its outcomes: the first and how many.
-#[derive(Clone, Copy)]
+#[derive(Clone, Copy, Default)]
 pub struct ActionRecord {
     pub byte: u32,
     pub cost: u32,
@@ -67,7 +59,7 @@ pub struct ActionRecord {
 }
 
 /// An outcome: a state and its weight.
-#[derive(Clone, Copy)]
+#[derive(Clone, Copy, Default)]
 pub struct OutcomeRecord {
     pub byte: u32,
     pub state: u16,
@@ -75,37 +67,9 @@ pub struct OutcomeRecord {
 }
 
 impl StateRecord {
-    /// What is told of a state that the file lacks.
-    pub const NONE: StateRecord = StateRecord {
-        byte: 0,
-        kind: 0,
-        estimate: 0,
-        first: 0,
-        count: 0,
-    };
-
     pub fn is_terminal(self) -> bool
         ensures { result ≡ is_terminal self }
     {
         self.kind == KIND_TERMINAL
     }
-}
-
-impl ActionRecord {
-    /// What is told of an action that the file lacks.
-    pub const NONE: ActionRecord = ActionRecord {
-        byte: 0,
-        cost: 0,
-        first: 0,
-        count: 0,
-    };
-}
-
-impl OutcomeRecord {
-    /// What is told of an outcome that the file lacks.
-    pub const NONE: OutcomeRecord = OutcomeRecord {
-        byte: 0,
-        state: 0,
-        weight: 0,
-    };
 }

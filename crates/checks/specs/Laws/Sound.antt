@@ -23,26 +23,31 @@ module _ (F : Format) (b : List ℕ) where
   pub passed_framed : Passed F b 5 → WellFramed F b
   passed_framed passed = clear_framed (passed Header (lit< tt)) (passed Sections (lit< tt))
 
-  module _ (sound : Sound F b) where
-    sound_framed : WellFramed F b
-    sound_framed = clear_framed (sound Header) (sound Sections)
+  -- a file whose records were checked is filled by them
+  module _ (passed : Passed F b 9) where
+    framed : WellFramed F b
+    framed = passed_framed (λ c h. passed c (omega arith))
 
-    pub sound_filled : Filled F b
-    sound_filled = record {
-      framed = sound_framed;
+    pub passed_filled : Filled F b
+    passed_filled = record {
+      framed = framed;
       states_hold = clear_holds (states b) (state_byte F) state_offset (StatesRule F b)
-          (λ r. elim [ Kind ↦ stable_le _ _ | Estimate ↦ stable_le _ _ | FirstAction ↦ stable_eq _ _ | ActionCount ↦ stable_le _ _ ]) (sound StateField);
+          (λ r. elim [ Kind ↦ stable_le _ _ | Estimate ↦ stable_le _ _ | FirstAction ↦ stable_eq _ _ | ActionCount ↦ stable_le _ _ ]) (passed StateField (lit< tt));
       actions_hold = clear_holds (actions b) (action_byte F b) action_offset (ActionsRule F b)
-          (λ r. elim [ Cost ↦ stable_within _ _ _ | FirstOutcome ↦ stable_eq _ _ | OutcomeCount ↦ stable_within _ _ _ ]) (sound ActionField);
+          (λ r. elim [ Cost ↦ stable_within _ _ _ | FirstOutcome ↦ stable_eq _ _ | OutcomeCount ↦ stable_within _ _ _ ]) (passed ActionField (lit< tt));
       outcomes_hold = clear_holds (outcomes b) (outcome_byte F b) outcome_offset (OutcomesRule F b)
-          (λ r. elim [ Target ↦ stable_le _ _ | Weight ↦ stable_within _ _ _ ]) (sound OutcomeField);
-      actions_counted = stable_eq _ _ (λ wrong. sound Counts (states b - 1) (state_byte F (states b - 1) + 7) (inl (omega (arith, sound_framed.some_state), refl, wrong)));
+          (λ r. elim [ Target ↦ stable_le _ _ | Weight ↦ stable_within _ _ _ ]) (passed OutcomeField (lit< tt));
+      actions_counted = stable_eq _ _ (λ wrong. passed Counts (lit< tt) (states b - 1) (state_byte F (states b - 1) + 7) (inl (omega (arith, framed.some_state), refl, wrong)));
       outcomes_counted = stable_eq _ _ (λ wrong. elim (dec_le 1 (actions b)) [
-        | yes h ↦ sound Counts (actions b - 1) (action_byte F b (actions b - 1) + 6) (inr (omega arith, refl, wrong))
+        | yes h ↦ passed Counts (lit< tt) (actions b - 1) (action_byte F b (actions b - 1) + 6) (inr (omega arith, refl, wrong))
         | no h ↦ let none : actions b ≡ 0 = omega arith in
-            wrong (omega (arith, sum_zero (outcome_count F b) (actions b) none, sound_framed.outcomes_none none))
+            wrong (omega (arith, sum_zero (outcome_count F b) (actions b) none, framed.outcomes_none none))
       ]);
     }
+
+  module _ (sound : Sound F b) where
+    pub sound_filled : Filled F b
+    sound_filled = passed_filled (λ c _. sound c)
 
     pub weights_hold : Holds (actions b) (WeightsRule F b)
     weights_hold = clear_holds (actions b) (action_byte F b) whole_offset (WeightsRule F b) (λ r p. stable_eq _ _) (sound Weights)

@@ -2,22 +2,22 @@
 
 ghost use Rattle.std.specs.Prelude.{◌≡◌, ◌+◌, ◌<◌};
 ghost use Rattle.rcm.specs.Format.{version_1};
-ghost use Rattle.rcm.specs.Layout.{some_bytes, head_of, state_told, action_told, outcome_told};
+ghost use Rattle.rcm.specs.Layout.{head_of, state_told, action_told, outcome_told};
 
 use crate::bytes::{u16_at, u32_at};
 use crate::format::{ACTION_WIDTH, HEADER_WIDTH, OUTCOME_WIDTH, STATE_WIDTH};
 use crate::frame::Framed;
 use crate::records::{ActionRecord, Head, OutcomeRecord, StateRecord};
 
-impl Framed<'_> {
-    /// Whether there is a file.
-    pub fn holds_file(&self) -> bool
-        ensures { result ≡ some_bytes self.now.bytes.now }
+impl<'a> Framed<'a> {
+    /// The bytes of the file.
+    pub fn bytes(&self) -> &'a [u8]
+        ensures { result.now ≡ self.now.bytes.now }
     {
-        !self.bytes.is_empty()
+        self.bytes
     }
 
-    /// The numbers of the header; zeros of no file.
+    /// The numbers of the header.
     pub fn head(&self) -> Head
         ensures { result ≡ head_of self.now.bytes.now }
     {
@@ -28,8 +28,8 @@ impl Framed<'_> {
     pub fn state(&self, s: u32) -> StateRecord
         ensures { result ≡ state_told version_1 self.now.bytes.now s }
     {
-        if s >= u32::from(self.head().states) {
-            return StateRecord::NONE;
+        if s >= u32::from(self.header.states) {
+            return StateRecord::default();
         }
         let byte = HEADER_WIDTH + STATE_WIDTH * s;
         let at = byte as usize;
@@ -46,10 +46,10 @@ impl Framed<'_> {
     pub fn action(&self, a: u32) -> ActionRecord
         ensures { result ≡ action_told version_1 self.now.bytes.now a }
     {
-        if a >= u32::from(self.head().actions) {
-            return ActionRecord::NONE;
+        if a >= u32::from(self.header.actions) {
+            return ActionRecord::default();
         }
-        let byte = self.head().actions_byte() + ACTION_WIDTH * a;
+        let byte = self.header.actions_byte() + ACTION_WIDTH * a;
         let at = byte as usize;
         ActionRecord {
             byte,
@@ -63,10 +63,10 @@ impl Framed<'_> {
     pub fn outcome(&self, o: u32) -> OutcomeRecord
         ensures { result ≡ outcome_told version_1 self.now.bytes.now o }
     {
-        if o >= u32::from(self.head().outcomes) {
-            return OutcomeRecord::NONE;
+        if o >= u32::from(self.header.outcomes) {
+            return OutcomeRecord::default();
         }
-        let byte = self.head().outcomes_byte() + OUTCOME_WIDTH * o;
+        let byte = self.header.outcomes_byte() + OUTCOME_WIDTH * o;
         let at = byte as usize;
         OutcomeRecord {
             byte,

@@ -6,6 +6,7 @@ use Rattle.rcm.specs.Format.{version_1}
 use Rattle.rcm.specs.Layout.{outcome_count, actions, outcomes, sum_below}
 use Rattle.rcm.specs.Checking.{WellFramed}
 use Rattle.rcm.specs.Laws.Sums.{sum_zero}
+use Rattle.checks.specs.Laws.Sound.{passed_framed}
 use Rattle.checks.proofs.counts.check_counts.Goals as goal
 
 some_action : (b : List ℕ) → WellFramed version_1 b → (sum_below (outcome_count version_1 b) (actions b) ≡ outcomes b → ⊥) → 1 ≤ actions b
@@ -20,10 +21,10 @@ some_action b framed wrong =
 pub overflow_sub-last-then-of_actions-from : goal.overflow_sub-last-then-of_actions-from
 overflow_sub-last-then-of_actions-from c =
     let heads = ap (λ (h : Head). h.outcomes) c.head-head.ensures in
-    omega (arith, some_action _ c.requires.framed (omega (arith, heads)), ap (λ (h : Head). h.actions) c.head-head.ensures)
+    omega (arith, some_action _ (passed_framed version_1 _ c.args.file.now.passed) (omega (arith, heads)), ap (λ (h : Head). h.actions) c.head-head.ensures)
 
 pub returns-then-of_actions-from : goal.returns-then-of_actions-from
 returns-then-of_actions-from c =
     let heads = ap (λ (h : Head). h.outcomes) c.head-head.ensures in
-    let some : 1 ≤ actions c.args.file.now.bytes.now = some_action _ c.requires.framed (omega (arith, heads)) in
+    let some : 1 ≤ actions c.args.file.now.bytes.now = some_action _ (passed_framed version_1 _ c.args.file.now.passed) (omega (arith, heads)) in
     search rules

@@ -4,11 +4,12 @@ use Rattle.rcm.specs.Format.{version_1}
 use Rattle.rcm.specs.Layout.{state_told, action}
 use Rattle.rcm.specs.Laws.Runs.{run_length}
 use Rattle.table.specs.Laws.Telling.{actions_told}
+use Rattle.table.specs.Held.{held}
 use Rattle.table.proofs.table.model.TableProcessModel.actions.Goals as goal
 
 pub returns : goal.returns
 returns c =
-    let b = c.args.self.now.file.bytes.now in
+    let b = (held c.args.self.now.file) in
     let s = c.args.s in
     c.from.ensures
     ∙ ap (λ (r : StateRecord). r.count) c.state.ensures

@@ -1,0 +1,9 @@
+use Rattle.std.proofs.Common.{sym, ap, ◌∙◌}
+use Rattle.rcm.specs.declared.records.Head.{Head}
+use Rattle.rcm.specs.Format.{version_1}
+use Rattle.table.specs.Held.{held}
+use Rattle.table.specs.Laws.Telling.{states_told}
+use Rattle.table.proofs.table.model.TableProcessModel.states.Goals as goal
+
+pub returns : goal.returns
+returns c = c.from.ensures ∙ ap (λ (h : Head). h.states) c.head.ensures ∙ sym (states_told version_1 (held c.args.self.now.file))

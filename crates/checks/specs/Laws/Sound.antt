@@ -1,5 +1,5 @@
 -- Where no check fails, every rule holds.
-use Rattle.std.specs.Prelude.{◌≡◌, ℕ, ◌+◌, ◌-◌, ◌<◌, List, refl}
+use Rattle.std.specs.Prelude.{◌≡◌, ℕ, ◌+◌, ◌-◌, List, refl}
 use Rattle.std.proofs.Common.{inl, inr, arith, lit<}
 use Rattle.std.proofs.Math.Decide.{dec_le}
 use Rattle.faults.specs.declared.Cause.TheVariants.{Header, Sections, StateField, ActionField, OutcomeField, Counts, Weights, Consistency}

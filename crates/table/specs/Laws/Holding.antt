@@ -1,13 +1,10 @@
 -- A table that holds a file is in order; one with nothing tells nothing.
-use Rattle.std.specs.Prelude.{◌≡◌, Bool, true, false, Option, Some, None, IfSome, MatchOption, is_some, refl, ℕ, List, [], cond, nat_lt}
+use Rattle.std.specs.Prelude.{◌≡◌, true, Option, Some, None, IfSome, MatchOption, is_some, refl, ℕ, List, [], cond, nat_lt}
 use Rattle.std.proofs.Common.{sym, ap, ◌∙◌, le-ltb, arith}
 use mathlib.Core.Bool.{false≢true}
 use Rattle.process.specs.Process.{Told}
 use Rattle.rcm.specs.declared.frame.Framed.{Framed}
 use Rattle.rcm.specs.declared.records.Head.{Head}
-use Rattle.rcm.specs.declared.records.StateRecord.{StateRecord}
-use Rattle.rcm.specs.declared.records.ActionRecord.{ActionRecord}
-use Rattle.rcm.specs.declared.records.OutcomeRecord.{OutcomeRecord}
 use Rattle.rcm.specs.Format.{version_1, u16_at, u32_at}
 use Rattle.rcm.specs.Layout.{told, some_bytes, head_of, state_told, action_told, outcome_told, no_state, no_action, no_outcome}
 use Rattle.rcm.specs.Checks.{Sound}

@@ -1,5 +1,5 @@
 -- Each record that passes adds what it has of the next section; the first that does not is the first fault of the section.
-use Rattle.std.proofs.Common.{◌≡◌, ◌<◌, sym, ap, arith, below_more}
+use Rattle.std.proofs.Common.{sym, ap, arith, below_more}
 use Rattle.std.proofs.lemmas.Result.{err_from_is_err_and}
 use Rattle.faults.specs.Causes.{cause}
 use Rattle.rcm.specs.Format.{version_1}

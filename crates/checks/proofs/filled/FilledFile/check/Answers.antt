@@ -1,9 +1,8 @@
 -- Each check that passes adds its number to what has passed; the first that fails is the first fault of the file.
-use Rattle.std.proofs.Common.{sym, ◌∙◌}
 use Rattle.faults.specs.declared.Cause.TheVariants.{StateField, ActionField, OutcomeField, Counts}
 use Rattle.rcm.specs.Format.{version_1}
 use Rattle.rcm.proofs.Order.{passed_on}
-use Rattle.checks.proofs.Passing.{after_states, after_actions, after_outcomes, after_counts}
+use Rattle.checks.proofs.Passing.{after_states, after_actions, after_outcomes}
 use Rattle.checks.proofs.filled.FilledFile.check.Goals as goal
 
 pub returns-in_err-of_states : goal.returns-in_err-of_states
@@ -27,13 +26,3 @@ returns-in_err-check_counts c =
     let passed-7 = after_actions version_1 _ passed-6 c.in_ok-of_actions.ensures.1 in
     let passed-8 = after_outcomes version_1 _ passed-7 c.in_ok-check_section.ensures.1 in
     passed_on version_1 _ _ _ Counts _ c.from_residual-in_err-check_counts.ensures.1 passed-8 c.in_err-check_counts.ensures
-
-pub invariant_of-result : goal.invariant_of-result
-invariant_of-result c =
-    let of_states = c.in_ok-of_states.ensures in
-    let of_actions = c.in_ok-of_actions.ensures in
-    let counted = c.in_ok-check_counts.ensures in
-    let passed-6 = after_states version_1 _ c.args.file.passed of_states.1 in
-    let passed-7 = after_actions version_1 _ passed-6 of_actions.1 in
-    let passed-8 = after_outcomes version_1 _ passed-7 c.in_ok-check_section.ensures.1 in
-    record { passed = after_counts version_1 _ passed-8 (sym of_states.0 ∙ counted.0) (sym of_actions.0 ∙ counted.1) }

@@ -1,4 +1,3 @@
-use Rattle.std.proofs.Common.{arith}
 use Rattle.std.proofs.lemmas.Result.{MatchResult-weaker}
 use Rattle.faults.specs.declared.Cause.TheVariants.{Weights, Consistency}
 use Rattle.rcm.specs.Format.{version_1}

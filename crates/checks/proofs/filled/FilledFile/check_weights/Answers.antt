@@ -1,5 +1,5 @@
 -- The first action whose weights are wrong is the first fault of its cause. The sum of the weights is that of the figure 1.
-use Rattle.std.proofs.Common.{◌≡◌, ℕ, ◌+◌, ◌*◌, ◌<◌, List, [], ◌∷◌, sym, refl, ap, ◌∙◌, arith, rules, below_more}
+use Rattle.std.proofs.Common.{◌≡◌, ℕ, ◌<◌, List, [], ◌∷◌, sym, refl, ap, ◌∙◌, arith, rules, below_more}
 use Rattle.process.specs.Process.{weights, weighted}
 use Rattle.rcm.specs.declared.records.ActionRecord.{ActionRecord}
 use Rattle.rcm.specs.declared.records.Head.{Head}

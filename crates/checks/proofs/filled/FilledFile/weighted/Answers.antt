@@ -1,9 +1,8 @@
 -- Each turn adds the weight of the next outcome times the figure of its state; both stand within their sections.
 use Rattle.std.proofs.Common.{◌≡◌, ℕ, ◌+◌, ◌*◌, ◌<◌, ◌≤◌, List, sym, ap, ◌∙◌, ap₂, mul-le-mul, arith}
-use Rattle.process.specs.Process.{weighted}
 use Rattle.rcm.specs.declared.records.OutcomeRecord.{OutcomeRecord}
 use Rattle.rcm.specs.Format.{version_1}
-use Rattle.rcm.specs.Layout.{states, outcomes, outcome, outcome_told, run}
+use Rattle.rcm.specs.Layout.{states, outcomes, outcome, outcome_told}
 use Rattle.rcm.specs.Checks.{Target, Weight}
 use Rattle.rcm.specs.Laws.Runs.{weighted_none, weighted_more}
 use Rattle.rcm.specs.Laws.Told.{outcome_here}
@@ -57,8 +56,3 @@ loop-k-preserved g c =
           )),
       omega (arith, small c.from-in-loop-k.result c.from-in-loop-k-2.result (omega (arith, next.weight_low)) (omega arith)),
     )
-
-pub returns-clause-value : goal.returns-clause-value
-returns-clause-value g c = λ f gives.
-    let turns : c.loop-k.k ≡ c.args.action.count = omega arith in
-    simp (sym c.from-first.ensures, sym turns) (c.loop-k.invariant.0 f gives)

@@ -1,6 +1,6 @@
 //! A model as text, one fact to a line.
 
-#![tactic(auto, using(crate::proofs::Written::written_none, crate::proofs::Written::written_more))]
+#![tactic(auto, using(crate::specs::Texts::joined_none, crate::proofs::Written::written_more))]
 
 ghost use Rattle.std.specs.Prelude.{◌≡◌, IfOk, string_bytes, Some};
 ghost use Rattle.description.specs.Texts.{action_text, described, process_text, state_text};

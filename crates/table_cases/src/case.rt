@@ -1,6 +1,6 @@
 //! A case: a file with some changes, and what is to come of it.
 
-use faults::{Layer, LoadFault, RecordFault};
+use faults::{Layer, LoadFault};
 use std::alloc::Global;
 use std::fmt;
 use std::ops::Range;
@@ -53,15 +53,11 @@ pub struct Case<T>(pub &'static [Change], pub T);
 
 impl From<LoadFault> for Refused {
     fn from(LoadFault { layer, fault }: LoadFault) -> Refused {
-        let RecordFault {
-            cause,
-            record,
-            byte,
-        } = fault;
+        let cause = fault.cause.code();
         match layer {
-            Layer::File => Refused::File(cause.code(), record, byte),
-            Layer::Record => Refused::Record(cause.code(), record, byte),
-            Layer::Rule => Refused::Rule(cause.code(), record, byte),
+            Layer::File => Refused::File(cause, fault.record, fault.byte),
+            Layer::Record => Refused::Record(cause, fault.record, fault.byte),
+            Layer::Rule => Refused::Rule(cause, fault.record, fault.byte),
         }
     }
 }
@@ -125,6 +121,7 @@ pub(crate) fn changed(heap: Global, file: &[u8], changes: &[Change]) -> Result<V
                 let Some(place) = bytes.as_mut_slice().get_mut(field.place(file)) else {
                     return Err(Fail::new("a change outside the file"));
                 };
+                // The low bytes of the value, from the last one on.
                 for (byte, digit) in place.iter_mut().rev().zip(value.to_le_bytes()) {
                     *byte = digit;
                 }

@@ -1,1 +1,1 @@
-mod Appending
+mod Written

@@ -8,10 +8,10 @@ use std::alloc::{AllocError, Global};
 use table::Table;
 
 /// The text that describes the model of a file, or the line of its refusal; an error only for want of memory.
-pub fn describe_file<'a>(heap: Global, bytes: &'a [u8]) -> Result<String, AllocError>
+pub fn describe_file(heap: Global, bytes: &[u8]) -> Result<String, AllocError>
     ensures { IfOk result (λ text. Reported bytes.now (string_bytes text)) }
 {
-    let mut table: Table<'a> = Table::nothing();
+    let mut table = Table::nothing();
     match table.load(bytes) {
         Ok(()) => describe(heap, &table),
         Err(fault) => format!(in heap; "{fault}\n"),

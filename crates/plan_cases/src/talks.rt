@@ -9,14 +9,14 @@ use planning::{Call, Refusal};
 use std::process::Abort;
 use table::Table;
 
-/// A call, and its answer.
-type Exchange = (Call, Result<Answer, Refusal>);
+/// What a plan says to a call.
+type Reply = Result<Answer, Refusal>;
 
-const UNFINISHED: Result<Answer, Refusal> = Err(Refusal::Unfinished);
+const UNFINISHED: Reply = Err(Refusal::Unfinished);
 
-const UNKNOWN: Result<Answer, Refusal> = Err(Refusal::UnknownState);
+const UNKNOWN: Reply = Err(Refusal::UnknownState);
 
-const OUT_OF_ORDER: Result<Answer, Refusal> = Err(Refusal::OutOfOrder);
+const OUT_OF_ORDER: Reply = Err(Refusal::OutOfOrder);
 
 /// The table of a file, or of nothing where the file does not load.
 fn loaded(bytes: &[u8]) -> Table<'_> {
@@ -25,20 +25,20 @@ fn loaded(bytes: &[u8]) -> Table<'_> {
     table
 }
 
-/// Makes the first calls on a plan over the file, then those of the exchanges, and compares their answers.
-fn talk_after(rt: &impl Abort, first: &[Call], bytes: &[u8], exchanges: &[Exchange]) {
+/// Makes the first calls on a plan over the file, then those of the exchanges, and compares the replies.
+fn talk_after(rt: &impl Abort, first: &[Call], bytes: &[u8], exchanges: &[(Call, Reply)]) {
     let mut plan = Plan::after(loaded(bytes), first);
-    for (i, exchange) in exchanges.iter().enumerate() {
-        assert_eq!(rt; plan.answer(exchange.0), exchange.1, "call {i}");
+    for (i, (call, reply)) in exchanges.iter().enumerate() {
+        assert_eq!(rt; plan.answer(*call), *reply, "call {i}");
     }
 }
 
-fn talk(rt: &impl Abort, bytes: &[u8], exchanges: &[Exchange]) {
+fn talk(rt: &impl Abort, bytes: &[u8], exchanges: &[(Call, Reply)]) {
     talk_after(rt, &[], bytes, exchanges);
 }
 
 /// The exchanges of a finished plan, whatever number of steps it took.
-fn talk_when_finished(rt: &impl Abort, bytes: &[u8], exchanges: &[Exchange]) {
+fn talk_when_finished(rt: &impl Abort, bytes: &[u8], exchanges: &[(Call, Reply)]) {
     let work = [Call::Work(7), Call::Advice(0), Call::Work(1_000_000)];
     talk_after(rt, &work, bytes, exchanges);
 }

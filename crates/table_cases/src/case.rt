@@ -1,9 +1,9 @@
-//! A case: a file with some changes, and what its load is to say.
+//! A case: a file with some changes, and what is to come of it.
 
-use crate::files::Base;
 use faults::{Layer, LoadFault};
 use std::alloc::Global;
 use std::fmt;
+use std::ops::Range;
 use std::process::Abort;
 use std::test::Fail;
 use table::Table;
@@ -37,109 +37,105 @@ pub enum Change {
     Length(usize),
 }
 
-/// What a load says: that the file loads, or the layer that refuses it, with the cause's number, the record and the byte.
+/// Why a load is refused: the layer, with the cause's number, the record and the byte.
 #[derive(Clone, Copy, PartialEq, Eq, Debug)]
-pub enum Verdict {
-    Loads,
+pub enum Refused {
     File(u8, u32, u32),
     Record(u8, u32, u32),
     Rule(u8, u32, u32),
 }
 
-/// The changes to a file, and the verdict on it.
-#[derive(Clone, Copy)]
-pub struct Case(pub &'static [Change], pub Verdict);
+pub type Verdict = Result<(), Refused>;
 
-/// Where a field stands: its first byte, and its number of bytes.
+/// The changes to a file, and what is expected of it then.
 #[derive(Clone, Copy)]
-struct Place {
-    at: usize,
-    width: usize,
+pub struct Case<T>(pub &'static [Change], pub T);
+
+impl From<LoadFault> for Refused {
+    fn from(LoadFault { layer, fault }: LoadFault) -> Refused {
+        let cause = fault.cause.code();
+        match layer {
+            Layer::File => Refused::File(cause, fault.record, fault.byte),
+            Layer::Record => Refused::Record(cause, fault.record, fault.byte),
+            Layer::Rule => Refused::Rule(cause, fault.record, fault.byte),
+        }
+    }
+}
+
+/// Records of one size, one after the other: the first byte, and the size.
+#[derive(Clone, Copy)]
+struct Section(u32, u16);
+
+impl Section {
+    fn field(self, record: u16, offset: u16, width: u16) -> Range<usize> {
+        let Section(first, size) = self;
+        let start = first as usize + usize::from(size) * usize::from(record) + usize::from(offset);
+        start..start + usize::from(width)
+    }
+}
+
+/// The number of two bytes that stands in a file, and 0 past its end.
+fn number_at(file: &[u8], at: usize) -> u16 {
+    match file.get(at..at.saturating_add(2)) {
+        Some([high, low]) => u16::from_be_bytes([*high, *low]),
+        _ => 0,
+    }
 }
 
 impl Field {
-    fn place(self, base: &Base) -> Place {
+    /// Where the field stands in a file.
+    fn place(self, file: &[u8]) -> Range<usize> {
+        let states_end = 17 + 8 * u32::from(number_at(file, 5));
+        let actions_end = states_end + 7 * u32::from(number_at(file, 9));
+        let header = Section(0, 17);
+        let states = Section(17, 8);
+        let actions = Section(states_end, 7);
+        let entries = Section(actions_end, 4);
         match self {
-            Field::Mark(i) => header_place(i, 1),
-            Field::Version => header_place(3, 2),
-            Field::States => header_place(5, 2),
-            Field::Start => header_place(7, 2),
-            Field::Actions => header_place(9, 2),
-            Field::Entries => header_place(11, 2),
-            Field::Price => header_place(13, 4),
-            Field::Kind(s) => state_place(s, 0, 1),
-            Field::Estimate(s) => state_place(s, 1, 4),
-            Field::FirstAction(s) => state_place(s, 5, 2),
-            Field::ActionCount(s) => state_place(s, 7, 1),
-            Field::Cost(a) => action_place(base, a, 0, 4),
-            Field::FirstEntry(a) => action_place(base, a, 4, 2),
-            Field::EntryCount(a) => action_place(base, a, 6, 1),
-            Field::EntryState(e) => entry_place(base, e, 0, 2),
-            Field::Weight(e) => entry_place(base, e, 2, 2),
+            Field::Mark(i) => header.field(0, i, 1),
+            Field::Version => header.field(0, 3, 2),
+            Field::States => header.field(0, 5, 2),
+            Field::Start => header.field(0, 7, 2),
+            Field::Actions => header.field(0, 9, 2),
+            Field::Entries => header.field(0, 11, 2),
+            Field::Price => header.field(0, 13, 4),
+            Field::Kind(s) => states.field(s, 0, 1),
+            Field::Estimate(s) => states.field(s, 1, 4),
+            Field::FirstAction(s) => states.field(s, 5, 2),
+            Field::ActionCount(s) => states.field(s, 7, 1),
+            Field::Cost(a) => actions.field(a, 0, 4),
+            Field::FirstEntry(a) => actions.field(a, 4, 2),
+            Field::EntryCount(a) => actions.field(a, 6, 1),
+            Field::EntryState(e) => entries.field(e, 0, 2),
+            Field::Weight(e) => entries.field(e, 2, 2),
         }
     }
 }
 
-fn header_place(offset: u16, width: usize) -> Place {
-    let at = usize::from(offset);
-    Place { at, width }
-}
-
-fn state_place(state: u16, offset: u16, width: usize) -> Place {
-    let at = 17 + 8 * usize::from(state) + usize::from(offset);
-    Place { at, width }
-}
-
-fn action_place(base: &Base, action: u16, offset: u16, width: usize) -> Place {
-    let section = 17 + 8 * usize::from(base.states);
-    let at = section + 7 * usize::from(action) + usize::from(offset);
-    Place { at, width }
-}
-
-fn entry_place(base: &Base, entry: u16, offset: u16, width: usize) -> Place {
-    let section = 17 + 8 * usize::from(base.states) + 7 * usize::from(base.actions);
-    let at = section + 4 * usize::from(entry) + usize::from(offset);
-    Place { at, width }
-}
-
-/// Writes the low bytes of a value at a place of the file. A place outside the file is a failure.
-fn write_over(bytes: &mut Vec<u8>, place: Place, value: u32) -> Result<(), Fail> {
-    let digits = value.to_be_bytes();
-    let unused = 4usize.saturating_sub(place.width);
-    for (i, digit) in digits.iter().skip(unused).enumerate() {
-        match bytes.get_mut(place.at.wrapping_add(i)) {
-            Some(byte) => *byte = *digit,
-            None => return Err(Fail::new("a change outside the file")),
-        }
-    }
-    Ok(())
-}
-
-/// A copy of the file with the changes.
-pub(crate) fn changed(heap: Global, base: &Base, changes: &[Change]) -> Result<Vec<u8>, Fail> {
-    let mut bytes = base.bytes.to_vec(heap)?;
+/// A copy of the file with the changes. A change outside the file is a failure.
+pub(crate) fn changed(heap: Global, file: &[u8], changes: &[Change]) -> Result<Vec<u8>, Fail> {
+    let mut bytes = file.to_vec(heap)?;
     for change in changes {
-        match change {
-            Change::Set(field, value) => write_over(&mut bytes, field.place(base), *value)?,
-            Change::Length(length) => bytes.resize(*length, 0)?,
+        match *change {
+            Change::Set(field, value) => {
+                let Some(place) = bytes.as_mut_slice().get_mut(field.place(file)) else {
+                    return Err(Fail::new("a change outside the file"));
+                };
+                // The low bytes of the value, from the last one on.
+                for (byte, digit) in place.iter_mut().rev().zip(value.to_le_bytes()) {
+                    *byte = digit;
+                }
+            }
+            Change::Length(length) => bytes.resize(length, 0)?,
         }
     }
     Ok(bytes)
 }
 
-fn load_verdict(bytes: &[u8]) -> Verdict {
+fn load(bytes: &[u8]) -> Verdict {
     let mut table = Table::nothing();
-    match table.load(bytes) {
-        Ok(()) => Verdict::Loads,
-        Err(LoadFault { layer, fault }) => {
-            let cause = fault.cause.code();
-            match layer {
-                Layer::File => Verdict::File(cause, fault.record, fault.byte),
-                Layer::Record => Verdict::Record(cause, fault.record, fault.byte),
-                Layer::Rule => Verdict::Rule(cause, fault.record, fault.byte),
-            }
-        }
-    }
+    table.load(bytes)?;
+    Ok(())
 }
 
 pub(crate) fn check_load(
@@ -148,29 +144,18 @@ pub(crate) fn check_load(
     expected: Verdict,
     which: &impl fmt::Debug,
 ) {
-    assert_eq!(rt; load_verdict(bytes), expected, "case {which:?}");
-}
-
-fn try_case(
-    rt: &impl Abort,
-    heap: Global,
-    base: &Base,
-    i: usize,
-    Case(changes, expected): Case,
-) -> Result<(), Fail> {
-    let bytes = changed(heap, base, changes)?;
-    check_load(rt, &bytes, expected, &i);
-    Ok(())
+    assert_eq!(rt; load(bytes), expected, "case {which:?}");
 }
 
 pub(crate) fn try_cases(
     rt: &impl Abort,
     heap: Global,
-    base: &Base,
-    cases: &[Case],
+    file: &[u8],
+    cases: &[Case<Verdict>],
 ) -> Result<(), Fail> {
-    for (i, case) in cases.iter().enumerate() {
-        try_case(rt, heap, base, i, *case)?;
+    for (i, Case(changes, expected)) in cases.iter().enumerate() {
+        let bytes = changed(heap, file, changes)?;
+        check_load(rt, &bytes, *expected, &i);
     }
     Ok(())
 }

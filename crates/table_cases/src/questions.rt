@@ -10,6 +10,7 @@ use std::process::Abort;
 use std::test::Fail;
 use table::Table;
 
+/// A call of the table as data, so that constants can hold it and a failure prints it.
 #[derive(Clone, Copy, Debug)]
 enum Question {
     InOrder,
@@ -150,35 +151,25 @@ fn check_answers(rt: &impl Abort, table: &Table, answers: &[(Question, Answer)])
     }
 }
 
-/// Loads a file, or sees it refused, and then checks the answers.
-fn check_turn<'a>(
-    rt: &impl Abort,
-    table: &mut Table<'a>,
-    file: &'a [u8],
-    loads: bool,
-    answers: &[(Question, Answer)],
-) {
-    assert_eq!(rt; table.load(file).is_ok(), loads);
-    check_answers(rt, table, answers);
-}
-
 /// The answers stay at a refused file, and change at one that loads.
-fn check_turns<'a>(rt: &impl Abort, example: &'a [u8], fork: &'a [u8], refused: &'a [u8]) {
-    let mut table: Table<'a> = Table::nothing();
-    check_answers(rt, &table, &NOTHING_ANSWERS);
-    check_turn(rt, &mut table, refused, false, &NOTHING_ANSWERS);
-    check_turn(rt, &mut table, example, true, &EXAMPLE_ANSWERS);
-    check_turn(rt, &mut table, refused, false, &EXAMPLE_ANSWERS);
-    check_turn(rt, &mut table, fork, true, &FORK_ANSWERS);
-    check_turn(rt, &mut table, refused, false, &FORK_ANSWERS);
-    check_turn(rt, &mut table, example, true, &EXAMPLE_ANSWERS);
-}
-
 #[test]
 fn answers_are_of_the_last_file_that_loaded(rt: HostRuntime) -> Result<(), Fail> {
-    let example = changed(rt.alloc(), &EXAMPLE, &[])?;
-    let fork = changed(rt.alloc(), &FORK, &LARGE_NUMBERS)?;
-    let refused = changed(rt.alloc(), &FORK, &TOO_HIGH)?;
-    check_turns(&rt, &example, &fork, &refused);
+    let example = changed(rt.alloc(), EXAMPLE, &[])?;
+    let fork = changed(rt.alloc(), FORK, &LARGE_NUMBERS)?;
+    let refused = changed(rt.alloc(), FORK, &TOO_HIGH)?;
+    let turns: [(&[u8], bool, &[(Question, Answer)]); 6] = [
+        (&refused, false, &NOTHING_ANSWERS),
+        (&example, true, &EXAMPLE_ANSWERS),
+        (&refused, false, &EXAMPLE_ANSWERS),
+        (&fork, true, &FORK_ANSWERS),
+        (&refused, false, &FORK_ANSWERS),
+        (&example, true, &EXAMPLE_ANSWERS),
+    ];
+    let mut table = Table::nothing();
+    check_answers(&rt, &table, &NOTHING_ANSWERS);
+    for (file, loads, answers) in turns {
+        assert_eq!(rt; table.load(file).is_ok(), loads);
+        check_answers(&rt, &table, answers);
+    }
     Ok(())
 }

@@ -44,6 +44,8 @@ pub enum Place {
     InOutcome,
 }
 
+// Two types where a generic one would do: contracts read by the names `place` and `cause`.
+
 /// A field is outside its limits.
 #[derive(Clone, Copy, PartialEq, Eq, Debug)]
 pub struct FieldFault {

@@ -1,4 +1,5 @@
-//! Small files, a record to a line.
+//! Small files, a record to a line. Each is written whole, also where it differs from another in one number, so that it can be
+//! read byte by byte.
 
 /// An open state, whose action of cost 10 leads to the ending or back, by halves. The price is 100.
 pub const EXAMPLE: &[u8] = b"RCM\x00\x01\x00\x02\x00\x00\x00\x01\x00\x02\x00\x00\x00\x64\

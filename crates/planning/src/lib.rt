@@ -31,7 +31,7 @@ pub enum Phase {
     Finished,
 }
 
-/// A call on a plan.
+/// A call on a plan, as data: the promises speak of lists of calls.
 #[derive(Clone, Copy, PartialEq, Eq, Debug)]
 pub enum Call {
     /// Make as many steps as this.
@@ -46,11 +46,11 @@ pub enum Call {
 #[derive(Clone, Copy, PartialEq, Eq, Debug)]
 pub enum Refusal {
     /// The model is out of order.
-    OutOfOrder,
+    OutOfOrder = 11,
     /// The model lacks the state.
-    UnknownState,
+    UnknownState = 12,
     /// The plan is not finished.
-    Unfinished,
+    Unfinished = 13,
 }
 
 impl Refusal {
@@ -58,10 +58,6 @@ impl Refusal {
     pub fn code(self) -> u8
         ensures { result ≡ number self }
     {
-        match self {
-            Refusal::OutOfOrder => 11,
-            Refusal::UnknownState => 12,
-            Refusal::Unfinished => 13,
-        }
+        self as u8
     }
 }

@@ -59,7 +59,7 @@ pub trait Model {
     fn outcomes(&self, s: u32, a: u32) -> u32
         ensures { result ≡ length (action_at (process self.now) s a).outcomes };
 
-    /// An outcome of an action: the state that it leads to, and its weight.
+    /// An outcome of an action: the state that it leads to, and its weight. The interface of models has it as a pair.
     fn outcome(&self, s: u32, a: u32, k: u32) -> (u32, u32)
         ensures { result ≡ outcome_at (action_at (process self.now) s a) k };
 

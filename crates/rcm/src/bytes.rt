@@ -1,4 +1,5 @@
-//! Numbers in bytes, high byte first.
+//! Numbers in bytes, high byte first. The wider is made of two narrower ones, as in the definition: a function over the width
+//! would give bytes, and each use would turn them into a number.
 
 ghost use Rattle.std.specs.Prelude.{◌≡◌, ◌+◌, ◌<◌, length};
 ghost use Rattle.rcm.specs.Format.{u16_at, u32_at};

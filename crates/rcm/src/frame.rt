@@ -14,6 +14,7 @@ use crate::records::Head;
 #[derive(Clone, Copy)]
 pub struct Framed<'a> {
     bytes: &'a [u8],
+    // Kept beside the bytes that it is read from, since every record that is read asks for it.
     header: Head,
     ghost framed: { Frame version_1 bytes.now },
     ghost passed: { Passed version_1 bytes.now 5 },

@@ -43,6 +43,7 @@ impl Head {
 #[derive(Clone, Copy, Default)]
 pub struct StateRecord {
     pub byte: u32,
+    // A number and no enum: a record tells its bytes as they stand, before the check that refuses a kind above 1.
     pub kind: u8,
     pub estimate: u32,
     pub first: u16,

@@ -62,9 +62,6 @@ weights_seen f (o ∷ os) zero = omega arith
 weights_seen f (o ∷ os) (suc k) = omega (arith, weights_seen f os k)
 
 module _ (gathered : List (ℕ × ℕ) → ℕ) (f : ℕ → ℕ) (os : List (ℕ × ℕ)) where
-  pub so_far_none : (all : ℕ) → all ≡ gathered [] → SoFar gathered f os 0 all
-  so_far_none all e = record { same = e; figures = tt }
-
   module _ (k all : ℕ) (so_far : SoFar gathered f os k all) where
     module _ (h : k < length os) (o : ℕ × ℕ) (told : o ≡ get_or os k (0, 0)) (figure : ℕ) (read : figure ≡ f o.0) (fits : figure < 2 ^ 32) where
       next_figures : Each (λ x. x.0 < 2 ^ 32) (one_more (seen f (take k os)) figure o.1)

@@ -1,5 +1,5 @@
 -- The lines at the beginning: filled in one by one from the estimates. Assumes nothing.
-use Rattle.std.proofs.Common.{◌≡◌, ℕ, ◌+◌, ◌<◌, ◌≤◌, Bool, true, false, List, length, get_or, set, replicate, sym, refl, ap, ◌∙◌, arith, length-set}
+use Rattle.std.proofs.Common.{◌≡◌, ℕ, ◌+◌, ◌<◌, ◌≤◌, Bool, true, false, List, length, get_or, set, sym, refl, ap, ◌∙◌, arith, length-set}
 use native.Mathlib.Decide.{dec_lt}
 use Rattle.process.specs.Process.{Process, Told}
 use Rattle.planning.specs.Steps.{Begun}
@@ -16,9 +16,6 @@ fresh estimate = record { expanded = false; lower = estimate; upper = 0 }
 pub record Filled (estimate : ℕ → ℕ) (s : ℕ) (lines : List Line) : Type 0 where
   pub as_many : length lines ≡ 1024
   pub done : (k : ℕ) → k < s → get_or lines k blank ≡ fresh (estimate k)
-
-pub filled_none : (estimate : ℕ → ℕ) → Filled estimate 0 (replicate 1024 blank)
-filled_none estimate = record { as_many = refl; done = λ k h. absurd (omega arith) }
 
 pub filled_more : (estimate : ℕ → ℕ) (s : ℕ) (lines : List Line) (n : ℕ) → s < 1024 → Filled estimate s lines → n ≡ estimate s → Filled estimate (s + 1) (set lines s (fresh n))
 filled_more estimate s lines n h filled told = record {

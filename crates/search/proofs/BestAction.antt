@@ -1,60 +1,76 @@
 -- One pass over the actions of a state finds the first of the least values below the price. Assumes nothing.
-use Rattle.std.proofs.Common.{◌≡◌, ℕ, ◌+◌, ◌<◌, ◌≤◌, length, sym, arith}
+use Rattle.std.proofs.Common.{◌≡◌, ℕ, ◌+◌, ◌<◌, ◌≤◌, Option, Some, None, MatchOption, length, sym, arith}
 use native.Mathlib.Decide.{dec_lt}
 use Rattle.process.specs.Process.{Process, action_at}
 use Rattle.process.specs.Valuation.{Valuation}
 use Rattle.planning.specs.Plan.{value, backup}
-use Rattle.search.specs.Choosing.{Picked}
+use Rattle.search.specs.Choosing.{Chosen}
+use Rattle.search.specs.declared.choice.Pick.{Pick}
 use Rattle.planning.proofs.Basics.{backup_le_price, backup_le_value, backup_greatest, best_is}
 
 -- what each action of a state is worth
 abbrev pub worth_of : Valuation → Process → (ℕ → ℕ) → ℕ → ℕ → ℕ
 worth_of V p f s a = value V p f (action_at p s a)
 
-pub record FirstBelow (v : ℕ → ℕ) (n action least : ℕ) : Type 0 where
-  pub within : action < n
-  pub here : v action ≡ least
-  pub first : (b : ℕ) → b < action → least < v b
+-- the first of the least of the first n values
+pub record FirstLeast (v : ℕ → ℕ) (n : ℕ) (pick : Pick) : Type 0 where
+  pub within : pick.action < n
+  pub here : v pick.action ≡ pick.value
+  pub least : (b : ℕ) → b < n → pick.value ≤ v b
+  pub first : (b : ℕ) → b < pick.action → pick.value < v b
 
--- least is the least of the cap and the first n values, and where it is below the cap, action is its first place
-pub record LeastOf (v : ℕ → ℕ) (cap n action least : ℕ) : Type 0 where
-  pub capped : least ≤ cap
-  pub each : (b : ℕ) → b < n → least ≤ v b
-  pub found : least < cap → FirstBelow v n action least
+-- what a value has to be below
+abbrev pub bar : ℕ → Option Pick → ℕ
+bar cap None = cap
+bar cap (Some pick) = pick.value
+
+pub bar_is : (cap : ℕ) (best : Option Pick) (n : ℕ) {Q : Pick → Type 0} → MatchOption best (n ≡ cap) Q → ((pick : Pick) → Q pick → n ≡ pick.value) → n ≡ bar cap best
+bar_is cap None n told at_some = told
+bar_is cap (Some pick) n told at_some = at_some pick told
+
+-- the first of the least of the first n values that are below the cap, if there are any
+abbrev pub LeastOf : (ℕ → ℕ) → ℕ → ℕ → Option Pick → Type 0
+LeastOf v cap n None = (b : ℕ) → b < n → cap ≤ v b
+LeastOf v cap n (Some pick) = (pick.value < cap) × FirstLeast v n pick
 
 module _ (v : ℕ → ℕ) (cap : ℕ) where
-  pub least_none : (least : ℕ) → least ≡ cap → LeastOf v cap 0 0 least
-  least_none least e = record { capped = omega arith; each = λ b h. absurd (omega arith); found = λ h. absurd (omega arith) }
+  pub least_kept : (n : ℕ) (best : Option Pick) → LeastOf v cap n best → bar cap best ≤ v n → LeastOf v cap (n + 1) best
+  least_kept n None so_far h = λ b w. elim (dec_lt b n) [ yes below ↦ so_far b below | no above ↦ let e : b ≡ n = omega arith in rw e h ]
+  least_kept n (Some pick) so_far h = (
+    so_far.0,
+    record {
+      within = omega (arith, so_far.1.within);
+      here = so_far.1.here;
+      least = λ b w. elim (dec_lt b n) [ yes below ↦ so_far.1.least b below | no above ↦ let e : b ≡ n = omega arith in rw e h ];
+      first = so_far.1.first;
+    },
+  )
 
-  module _ (n action least : ℕ) (so_far : LeastOf v cap n action least) where
-    pub least_kept : least ≤ v n → LeastOf v cap (n + 1) action least
-    least_kept h = record {
-      capped = so_far.capped;
-      each = λ b w. elim (dec_lt b n) [ yes below ↦ so_far.each b below | no above ↦ let e : b ≡ n = omega arith in rw e h ];
-      found = λ w. let one = so_far.found w in record { within = omega arith; here = one.here; first = one.first };
-    }
+  -- what is below the bar is below each value so far
+  above_bar : (n : ℕ) (best : Option Pick) → LeastOf v cap n best → (bar cap best ≤ cap) × ((b : ℕ) → b < n → bar cap best ≤ v b)
+  above_bar n None so_far = (omega arith, so_far)
+  above_bar n (Some pick) so_far = (omega (arith, so_far.0), so_far.1.least)
 
-    pub least_found : (x : ℕ) → x ≡ v n → x < least → LeastOf v cap (n + 1) n x
-    least_found x told h = record {
-      capped = omega (arith, so_far.capped);
-      each = λ b w. elim (dec_lt b n) [ yes below ↦ omega (arith, so_far.each b below) | no above ↦ let e : b ≡ n = omega arith in rw e (omega arith) ];
-      found = λ w. record { within = omega arith; here = sym told; first = λ b below. omega (arith, so_far.each b below) };
-    }
+  pub least_found : (n : ℕ) (best : Option Pick) → LeastOf v cap n best → (x : ℕ) → x ≡ v n → x < bar cap best → LeastOf v cap (n + 1) (Some (record { action = n; value = x }))
+  least_found n best so_far x told h =
+      let above = above_bar n best so_far in (
+        omega (arith, above.0),
+        record {
+          within = omega arith;
+          here = sym told;
+          least = λ b w. elim (dec_lt b n) [ yes below ↦ omega (arith, above.1 b below) | no above ↦ let e : b ≡ n = omega arith in rw e (omega arith) ];
+          first = λ b below. omega (arith, above.1 b below);
+        },
+      )
 
-module _ (V : Valuation) (p : Process) (f : ℕ → ℕ) (s n action least : ℕ) (whole : n ≡ length (p.actions s)) (all : LeastOf (worth_of V p f s) p.price n action least) where
-  least_is_backup : least ≡ backup V p f s
-  least_is_backup = elim (dec_lt least p.price) [
-    | yes below ↦ let one = all.found below in omega (arith, backup_le_value V p f s action (omega arith), one.here, greatest)
-    | no above ↦ omega (arith, all.capped, backup_le_price V p f s, greatest)
-  ]
-    where
-      greatest : least ≤ backup V p f s
-      greatest = backup_greatest V p f s least all.capped (λ a h. all.each a (omega arith))
-
-  pub picked : Picked V p f s action least
-  picked = record {
-    least_is = least_is_backup;
-    action_is = λ worth.
-        let one = all.found (omega (arith, least_is_backup)) in
-        sym (best_is V p f s action (omega arith) (λ b h. omega (arith, one.here, all.each b (omega arith))) (λ b h. omega (arith, one.here, one.first b h)));
-  }
+module _ (V : Valuation) (p : Process) (f : ℕ → ℕ) (s cap n : ℕ) (told : cap ≡ p.price) (whole : n ≡ length (p.actions s)) where
+  pub chosen : (best : Option Pick) → LeastOf (worth_of V p f s) cap n best → Chosen V p f s best
+  chosen None none = omega (arith, backup_le_price V p f s, backup_greatest V p f s p.price (omega arith) (λ a h. omega (arith, none a)))
+  chosen (Some pick) one =
+      let is : pick.value ≡ backup V p f s = omega (arith, backup_le_value V p f s pick.action (omega (arith, one.1.within)), one.1.here, backup_greatest V p f s pick.value (omega (arith, one.0)) (λ a h. one.1.least a (omega arith))) in
+      record {
+        worth = omega (arith, one.0);
+        within = omega (arith, one.1.within);
+        action_is = sym (best_is V p f s pick.action (omega (arith, one.1.within)) (λ b h. omega (arith, one.1.here, one.1.least b (omega arith))) (λ b h. omega (arith, one.1.here, one.1.first b h)));
+        value_is = is;
+      }

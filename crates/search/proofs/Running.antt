@@ -37,8 +37,8 @@ module _ (V W : Valuation) (p : Process) where
   pub next_within : (b : Bool) → Told p b → (x : Bounds) (step : Step) → Next V W p x step → state_of step < 1024
   next_within b told x step next = planned_within b told x (next_planned x step next)
 
-  pub ran_none : (x : Bounds) → Ran V W p x x 0 (record { expansions = 0; backups = 0 })
-  ran_none x = record { run = none; as_many = omega arith }
+  pub ran_none : (x : Bounds) (t : Tally) → (t.expansions ≡ 0) × (t.backups ≡ 0) → Ran V W p x x 0 t
+  ran_none x t fresh = record { run = rw (fresh.0, fresh.1) none; as_many = omega arith }
 
   run_more : (x y z : Bounds) (step : Step) (t : Tally) → Next V W p y step → Made step y z → Run V W p x y t.expansions t.backups → Run V W p x z (counted step t).expansions (counted step t).backups
   run_more x y z (Expand s) t next made run = rw add-one (then_expand s run (record { can = next; expanded = made.0; same_lower = made.1; same_upper = made.2 }))

@@ -3,8 +3,6 @@ use Rattle.std.specs.Prelude.{ℕ, false, slice_index_or}
 use Rattle.planning.specs.Steps.{Bounds}
 use Rattle.search.specs.declared.bounds.Bounds.{Bounds as Lines}
 use Rattle.search.specs.declared.bounds.Line.{Line}
-use Rattle.search.specs.declared.bounds.Side.{Side}
-use Rattle.search.specs.declared.bounds.Side.TheVariants.{Lower, Upper}
 
 abbrev pub blank : Line
 blank = record { expanded = false; lower = 0; upper = 0 }
@@ -14,7 +12,3 @@ line_at x s = slice_index_or x.lines s blank
 
 abbrev pub bounds_of : Lines → Bounds
 bounds_of x = record { expanded = λ s. (line_at x s).expanded; lower = λ s. (line_at x s).lower; upper = λ s. (line_at x s).upper }
-
-abbrev pub figure_of : Side → Bounds → ℕ → ℕ
-figure_of Lower x s = x.lower s
-figure_of Upper x s = x.upper s

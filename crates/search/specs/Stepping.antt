@@ -1,11 +1,9 @@
 -- The next step from some bounds, and what holds where none is left. Assumes nothing.
-use Rattle.std.specs.Prelude.{◌≡◌, ℕ, ◌≤◌, true, false}
+use Rattle.std.specs.Prelude.{◌≡◌, ℕ, ◌<◌, ◌≤◌, true, false, Option, Some, None}
 use Rattle.planning.specs.Plan.{backup, upper_backup}
-use Rattle.planning.specs.Steps.{Bounds, Planned, Settled, CanExpand, CanRaiseLower, CanRaiseUpper}
+use Rattle.planning.specs.Steps.{Bounds, CanExpand, CanRaiseLower, CanRaiseUpper}
 use Rattle.process.specs.Process.{Process}
 use Rattle.process.specs.Valuation.{Valuation}
-use Rattle.search.specs.declared.step.Kind.{Kind}
-use Rattle.search.specs.declared.step.Kind.TheVariants.{Expansion, LowerBackup, UpperBackup}
 use Rattle.search.specs.declared.step.Step.{Step}
 use Rattle.search.specs.declared.step.Step.TheVariants.{Expand, RaiseLower, RaiseUpper}
 
@@ -15,17 +13,19 @@ Next V W p x (Expand s) = CanExpand V p x s
 Next V W p x (RaiseLower s n) = CanRaiseLower V p x s × (n ≡ backup V p x.lower s)
 Next V W p x (RaiseUpper s n) = CanRaiseUpper V W p x s × (n ≡ upper_backup V W p x.lower x.upper s)
 
--- no step of this kind is left at a state
-abbrev pub NoneAt : Valuation → Valuation → Process → Bounds → Kind → ℕ → Type 0
-NoneAt V W p x Expansion s = p.terminal s ≡ false → x.expanded s ≡ true
-NoneAt V W p x LowerBackup s = p.terminal s ≡ false → backup V p x.lower s ≤ x.lower s
-NoneAt V W p x UpperBackup s = p.terminal s ≡ false → upper_backup V W p x.lower x.upper s ≤ x.upper s
+-- A step of one kind that a state wants by itself, wherever it stands in the plan; or it wants none of this kind.
 
-abbrev pub NoneLeft : Valuation → Valuation → Process → Bounds → Kind → Type 0
-NoneLeft V W p x kind = (s : ℕ) → Planned V p x s → NoneAt V W p x kind s
+abbrev pub Expands : Process → Bounds → ℕ → Option Step → Type 0
+Expands p x s None = p.terminal s ≡ false → x.expanded s ≡ true
+Expands p x s (Some step) = (step ≡ Expand s) × (p.terminal s ≡ false) × (x.expanded s ≡ false)
 
--- no step of an earlier kind is left
-abbrev pub Ready : Valuation → Valuation → Process → Bounds → Kind → Type 0
-Ready V W p x Expansion = Unit {0}
-Ready V W p x LowerBackup = NoneLeft V W p x Expansion
-Ready V W p x UpperBackup = Settled V p x
+-- the figure n gives way to the value v of a backup
+abbrev pub Raises : Process → ℕ → ℕ → Step → ℕ → Option Step → Type 0
+Raises p n v wanted s None = p.terminal s ≡ false → v ≤ n
+Raises p n v wanted s (Some step) = (step ≡ wanted) × (p.terminal s ≡ false) × (n < v)
+
+abbrev pub RaisesLower : Valuation → Process → Bounds → ℕ → Option Step → Type 0
+RaisesLower V p x s = Raises p (x.lower s) (backup V p x.lower s) (RaiseLower s (backup V p x.lower s)) s
+
+abbrev pub RaisesUpper : Valuation → Valuation → Process → Bounds → ℕ → Option Step → Type 0
+RaisesUpper V W p x s = Raises p (x.upper s) (upper_backup V W p x.lower x.upper s) (RaiseUpper s (upper_backup V W p x.lower x.upper s)) s

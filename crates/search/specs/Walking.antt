@@ -1,41 +1,40 @@
--- The walk over a plan's states: which are marked, and in which order they were found. Assumes nothing.
-use Rattle.std.specs.Prelude.{◌≡◌, ℕ, ◌+◌, ◌<◌, ◌≤◌, Bool, true, false, cond, ◌⊎◌, ◌↔◌, List, [], ◌∷◌, length, get_or, slice_index, slice_index_or}
+-- The walk over a plan's states, in the order in which they were found. Assumes nothing.
+use Rattle.std.specs.Prelude.{◌≡◌, ℕ, ◌+◌, ◌<◌, Bool, true, false, cond, ◌⊎◌, ◌↔◌, List, [], ◌∷◌, ◌++◌, length, get_or, take, slice_index, slice_index_or}
+use Rattle.std.specs.List.{Contains}
 use Rattle.planning.specs.Plan.{best, Worth}
 use Rattle.planning.specs.Steps.{Bounds, Planned}
 use Rattle.process.specs.Process.{Process, action_at}
 use Rattle.process.specs.Valuation.{Valuation}
-use Rattle.search.specs.declared.walk.Found.{Found}
 
-abbrev pub mark_at : Found → ℕ → Bool
-mark_at w s = slice_index_or w.marks s false
-
-abbrev pub Marked : Found → ℕ → Type 0
-Marked w s = mark_at w s ≡ true
-
--- the state that was found after i others
-abbrev pub nth : Found → ℕ → ℕ
-nth w i = slice_index w.order i
+-- the states that were found, each once, and how many of them were visited
+pub record Walk : Type 0 where
+  pub states : List ℕ
+  pub visited : ℕ
 
 abbrev pub unmarked : List Bool → ℕ
 unmarked [] = 0
 unmarked (b ∷ bs) = cond b 0 1 + unmarked bs
 
 -- the first so many of the order are the marked states, each once
-pub record Listed (w : Found) : Type 0 where
-  pub marks_many : length w.marks ≡ 1024
-  pub order_many : length w.order ≡ 1024
-  pub full : w.count + unmarked w.marks ≡ 1024
-  pub found : (s : ℕ) → Marked w s → (i : ℕ) × (i < w.count) × (nth w i ≡ s)
-  pub marked : (i : ℕ) → i < w.count → Marked w (nth w i)
+pub record Listed (marks : List Bool) (order : List ℕ) (count : ℕ) : Type 0 where
+  pub full : count + unmarked marks ≡ 1024
+  pub agree : (s : ℕ) → (slice_index_or marks s false ≡ true) ↔ Contains (take count order) s
 
--- the new states are marked too, and no others
-pub record Grown (new : ℕ → Type 0) (w v : Found) : Type 0 where
-  pub listed : Listed v
-  pub more : w.count ≤ v.count
-  pub kept : (s : ℕ) → Marked w s → Marked v s
-  pub in_order : (i : ℕ) → i < w.count → nth v i ≡ nth w i
-  pub only : (s : ℕ) → Marked v s → Marked w s ⊎ new s
-  pub all : (s : ℕ) → new s → Marked v s
+-- the new states are found too, after the others, and no others are
+pub record Grown (new : ℕ → Type 0) (w v : Walk) : Type 0 where
+  pub more : List ℕ
+  pub after : v.states ≡ w.states ++ more
+  pub same_visited : v.visited ≡ w.visited
+  pub only : (s : ℕ) → Contains v.states s → Contains w.states s ⊎ new s
+  pub all : (s : ℕ) → new s → Contains v.states s
+
+-- s is the first state of w that was not visited, and is visited now
+pub record Visited (w v : Walk) (s : ℕ) : Type 0 where
+  pub within : w.visited < length w.states
+  pub few : w.visited < 1024
+  pub here : slice_index w.states w.visited ≡ s
+  pub same_states : v.states ≡ w.states
+  pub one_more : v.visited ≡ w.visited + 1
 
 abbrev pub Same : ℕ → ℕ → Type 0
 Same s r = r ≡ s
@@ -56,7 +55,6 @@ pub record Leads (V : Valuation) (p : Process) (x : Bounds) (t s : ℕ) : Type 0
   pub worth : Worth V p x.lower t
   pub outcome : Among (action_at p t (best V p x.lower t)).outcomes s
 
--- just the plan's states are marked
-pub record Surveyed (V : Valuation) (p : Process) (x : Bounds) (w : Found) : Type 0 where
-  pub listed : Listed w
-  pub marks : (s : ℕ) → Marked w s ↔ Planned V p x s
+-- just the plan's states were found
+abbrev pub Surveyed : Valuation → Process → Bounds → List ℕ → Type 0
+Surveyed V p x states = (s : ℕ) → Contains states s ↔ Planned V p x s

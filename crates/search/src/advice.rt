@@ -3,28 +3,25 @@
 ghost use Rattle.planning.specs.Plan.{Advised};
 ghost use Rattle.search.specs.Lines.{bounds_of};
 
-use crate::bounds::Bounds;
-use crate::choice::choose;
-use crate::walk::planned;
+use crate::view::View;
 use planning::Advice;
 use process::{Model, Valuing};
 
-/// The advice for a state. A terminal state is told first; then whether the plan reaches the state.
-pub fn advise<M: Model, V: Valuing>(model: &M, bounds: &Bounds, s: u32) -> Advice
-    ensures { let x = bounds_of bounds.now in
-        Advised V.Valuing.valuation (M.Model.process model.now) x.expanded x.lower x.upper s result }
-{
-    if model.terminal(s) {
-        return Advice::Ending;
+impl<M: Model> View<'_, M> {
+    /// The advice for a state. A terminal state is told first; then whether the plan reaches the state.
+    pub fn advise<V: Valuing>(self, s: u32) -> Advice
+        ensures { let x = bounds_of self.entry.bounds.now in
+            Advised V.Valuing.valuation (M.Model.process self.entry.model.now) x.expanded x.lower x.upper s result }
+    {
+        if self.model.terminal(s) {
+            return Advice::Ending;
+        }
+        if !self.reaches::<V>(s) {
+            return Advice::NotReached;
+        }
+        match self.choose::<V>(s) {
+            Some(pick) if self.bounds.upper(s) != self.model.price() => Advice::Act(pick.action),
+            _ => Advice::WriteOff,
+        }
     }
-    let found = planned::<M, V>(model, bounds);
-    if !found.marked(s) {
-        return Advice::NotReached;
-    }
-    let pick = choose::<M, V>(model, bounds, s);
-    let price = model.price();
-    if pick.least >= price || bounds.upper(s) == price {
-        return Advice::WriteOff;
-    }
-    Advice::Act(pick.action)
 }

@@ -2,7 +2,7 @@
 
 ghost use Rattle.std.specs.Prelude.{◌≡◌, ◌<◌};
 ghost use Rattle.planning.specs.Steps.{Begun};
-ghost use Rattle.search.specs.Lines.{blank, line_at, bounds_of, figure_of};
+ghost use Rattle.search.specs.Lines.{line_at, bounds_of};
 ghost use Rattle.search.specs.Making.{Made, state_of};
 
 use crate::step::Step;
@@ -16,17 +16,10 @@ struct Line {
     upper: u32,
 }
 
-/// A line for each state.
+/// A line for each state, in an array: a search may not fail for want of memory.
 #[derive(Drop)]
 pub struct Bounds {
     lines: [Line; 1024],
-}
-
-/// One of the two figures of a state.
-#[derive(Clone, Copy)]
-pub(crate) enum Side {
-    Lower,
-    Upper,
 }
 
 /// A line before any step, but for its estimate.
@@ -42,9 +35,9 @@ impl Bounds {
         ensures { Begun (M.Model.process model.now) (bounds_of result) }
     {
         let mut lines = [BLANK; 1024];
-        for s in 0..1024u32 {
-            lines[s as usize] = Line {
-                lower: model.estimate(s),
+        for (s, line) in lines.iter_mut().enumerate() {
+            *line = Line {
+                lower: model.estimate(s as u32),
                 ..BLANK
             };
         }
@@ -54,10 +47,7 @@ impl Bounds {
     fn line(&self, s: u32) -> Line
         ensures { result ≡ line_at self.now s }
     {
-        match self.lines.get(s as usize) {
-            Some(line) => *line,
-            None => BLANK,
-        }
+        self.lines.get(s as usize).copied().unwrap_or(BLANK)
     }
 
     /// Whether the state is expanded.
@@ -79,15 +69,6 @@ impl Bounds {
         ensures { result ≡ (bounds_of self.now).upper s }
     {
         self.line(s).upper
-    }
-
-    pub(crate) fn figure(&self, side: Side, s: u32) -> u32
-        ensures { result ≡ figure_of side (bounds_of self.now) s }
-    {
-        match side {
-            Side::Lower => self.lower(s),
-            Side::Upper => self.upper(s),
-        }
     }
 
     /// Makes a step: writes one entry of one line.

@@ -1,68 +1,75 @@
 //! What an action is worth, and which action of a state is best.
 
-ghost use Rattle.std.specs.Prelude.{◌≡◌, ◌<◌, length};
-ghost use Rattle.planning.specs.Plan.{value, upper_backup};
+ghost use Rattle.std.specs.Prelude.{◌≡◌, ◌<◌, ◌^◌, ℕ, length};
+ghost use Rattle.planning.specs.Plan.{value, backup, upper_backup};
 ghost use Rattle.process.specs.Process.{action_at};
-ghost use Rattle.search.specs.Choosing.{Picked};
-ghost use Rattle.search.specs.Lines.{bounds_of, figure_of};
+ghost use Rattle.search.specs.Choosing.{Chosen};
+ghost use Rattle.search.specs.Lines.{bounds_of};
 
-use crate::bounds::{Bounds, Side};
+use crate::view::View;
 use process::{Model, Valuing};
 
-/// What an action of a state is worth, by the lower or the upper figures.
-fn action_value<M: Model, V: Valuing>(model: &M, bounds: &Bounds, side: Side, s: u32, a: u32) -> u64
-    requires { a < length ((M.Model.process model.now).actions s) }
-    ensures { let p = M.Model.process model.now in
-        result ≡ value V.Valuing.valuation p (figure_of side (bounds_of bounds.now)) (action_at p s a) }
-{
-    let mut all = V::none();
-    for k in 0..model.outcomes(s, a) {
-        let (to, weight) = model.outcome(s, a, k);
-        all = V::gather(all, bounds.figure(side, to), weight);
-    }
-    V::close(all, model.total(), model.cost(s, a))
-}
-
-/// What a lower backup of a state gives, and the best action if that is below the price.
+/// An action, and what it is worth by the lower figures.
 #[derive(Clone, Copy)]
 pub(crate) struct Pick {
     pub action: u32,
-    pub least: u32,
+    pub value: u32,
 }
 
-pub(crate) fn choose<M: Model, V: Valuing>(model: &M, bounds: &Bounds, s: u32) -> Pick
-    ensures { Picked V.Valuing.valuation (M.Model.process model.now) (bounds_of bounds.now).lower s result.action result.least }
-{
-    let mut action = 0;
-    let mut least = model.price();
-    for a in 0..model.actions(s) {
-        let value = action_value::<M, V>(model, bounds, Side::Lower, s, a);
-        if value < u64::from(least) {
-            action = a;
-            least = value as u32;
+impl<M: Model> View<'_, M> {
+    /// What an action of a state is worth, by a figure of each of its outcomes.
+    fn action_value<V: Valuing, F: Fn(u32) -> u32>(self, s: u32, a: u32, figure: F) -> u64
+        requires within { a < length ((M.Model.process self.model.now).actions s) }
+        requires callable { F.IsAlwaysCallable figure }
+        ensures { let p = M.Model.process self.entry.model.now in
+            (f : ℕ → ℕ) → ((to n : ℕ) → to < 2 ^ 32 → F.post figure to n → n ≡ f to) → result ≡ value V.Valuing.valuation p f (action_at p s a) }
+    {
+        let mut all = V::none();
+        for k in 0..self.model.outcomes(s, a) {
+            let (to, weight) = self.model.outcome(s, a, k);
+            all = V::gather(all, figure(to), weight);
         }
+        V::close(all, self.model.total(), self.model.cost(s, a))
     }
-    Pick { action, least }
-}
 
-/// What an upper backup of a state gives.
-pub(crate) fn upper_value<M: Model, V: Valuing, W: Valuing>(
-    model: &M,
-    bounds: &Bounds,
-    s: u32,
-) -> u32
-    ensures { let x = bounds_of bounds.now in
-        result ≡ upper_backup V.Valuing.valuation W.Valuing.valuation (M.Model.process model.now) x.lower x.upper s }
-{
-    let price = model.price();
-    let pick = choose::<M, V>(model, bounds, s);
-    if pick.least >= price {
-        return price;
+    /// The best action of a state. There is none where the state is written off.
+    #[inline]
+    pub(crate) fn choose<V: Valuing>(self, s: u32) -> Option<Pick>
+        ensures { Chosen V.Valuing.valuation (M.Model.process self.entry.model.now) (bounds_of self.entry.bounds.now).lower s result }
+    {
+        let price = self.model.price();
+        let mut best: Option<Pick> = None;
+        for a in 0..self.model.actions(s) {
+            let value = self.action_value::<V, _>(s, a, |to| self.bounds.lower(to));
+            let least = best.map_or(price, |pick| pick.value);
+            if value < u64::from(least) {
+                best = Some(Pick {
+                    action: a,
+                    value: value as u32,
+                });
+            }
+        }
+        best
     }
-    let value = action_value::<M, W>(model, bounds, Side::Upper, s, pick.action);
-    if value < u64::from(price) {
-        value as u32
-    } else {
-        price
+
+    /// What a lower backup of a state gives.
+    pub(crate) fn lower_value<V: Valuing>(self, s: u32) -> u32
+        ensures { result ≡ backup V.Valuing.valuation (M.Model.process self.entry.model.now) (bounds_of self.entry.bounds.now).lower s }
+    {
+        self.choose::<V>(s)
+            .map_or(self.model.price(), |pick| pick.value)
+    }
+
+    /// What an upper backup of a state gives.
+    pub(crate) fn upper_value<V: Valuing, W: Valuing>(self, s: u32) -> u32
+        ensures { let x = bounds_of self.entry.bounds.now in
+            result ≡ upper_backup V.Valuing.valuation W.Valuing.valuation (M.Model.process self.entry.model.now) x.lower x.upper s }
+    {
+        let price = self.model.price();
+        let Some(pick) = self.choose::<V>(s) else {
+            return price;
+        };
+        let value = self.action_value::<W, _>(s, pick.action, |to| self.bounds.upper(to));
+        value.min(u64::from(price)) as u32
     }
 }

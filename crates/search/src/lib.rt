@@ -6,12 +6,14 @@
 mod advice;
 mod bounds;
 mod choice;
+mod found;
 mod run;
 mod search;
 mod step;
+mod view;
 mod walk;
 
-pub use advice::advise;
 pub use bounds::Bounds;
 pub use run::advance;
-pub use search::phase;
+pub use step::Tally;
+pub use view::View;

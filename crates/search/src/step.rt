@@ -11,19 +11,11 @@ pub(crate) enum Step {
     RaiseUpper(u32, u32),
 }
 
-/// What a step does.
-#[derive(Clone, Copy)]
-pub(crate) enum Kind {
-    Expansion,
-    LowerBackup,
-    UpperBackup,
-}
-
 /// How many steps were made.
-#[derive(Clone, Copy)]
-pub(crate) struct Tally {
-    pub(crate) expansions: u32,
-    pub(crate) backups: u32,
+#[derive(Clone, Copy, Default)]
+pub struct Tally {
+    pub expansions: u32,
+    pub backups: u32,
 }
 
 impl Tally {
@@ -35,11 +27,11 @@ impl Tally {
         match step {
             Step::Expand(_) => Tally {
                 expansions: self.expansions + 1,
-                backups: self.backups,
+                ..self
             },
             Step::RaiseLower(_, _) | Step::RaiseUpper(_, _) => Tally {
-                expansions: self.expansions,
                 backups: self.backups + 1,
+                ..self
             },
         }
     }

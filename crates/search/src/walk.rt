@@ -1,87 +1,55 @@
 //! The states of a plan: a walk from the start along the best actions.
 
-ghost use Rattle.std.specs.Prelude.{◌≡◌, ◌<◌, length};
+ghost use Rattle.std.specs.Prelude.{◌<◌, ◌↔◌, IsTrue, length};
+ghost use Rattle.planning.specs.Steps.{Planned};
 ghost use Rattle.process.specs.Process.{action_at};
 ghost use Rattle.search.specs.Lines.{bounds_of};
-ghost use Rattle.search.specs.Walking.{Listed, Grown, Same, Among, Leads, Surveyed, mark_at};
+ghost use Rattle.search.specs.Walking.{Grown, Among, Leads, Surveyed};
 
-use crate::bounds::Bounds;
-use crate::choice::choose;
+use crate::found::Found;
+use crate::view::View;
 use process::{Model, Valuing};
 
-/// States that were found: a mark for each, and the order in which they were found.
-#[derive(Drop)]
-pub(crate) struct Found {
-    marks: [bool; 1024],
-    pub(crate) order: [u32; 1024],
-    pub(crate) count: usize,
-}
-
-impl Found {
-    /// Whether the state is marked.
-    pub(crate) fn marked(&self, s: u32) -> bool
-        ensures { result ≡ mark_at self.now s }
+impl<M: Model> View<'_, M> {
+    /// Finds the outcomes of an action.
+    fn find_outcomes(self, s: u32, a: u32, found: &mut Found)
+        requires { a < length ((M.Model.process self.model.now).actions s) }
+        ensures { Grown (Among (action_at (M.Model.process self.entry.model.now) s a).outcomes) found.old found.new }
     {
-        match self.marks.get(s as usize) {
-            Some(mark) => *mark,
-            None => false,
+        for k in 0..self.model.outcomes(s, a) {
+            let (to, _) = self.model.outcome(s, a, k);
+            found.add(to);
         }
     }
 
-    /// Marks a state, unless it is marked.
-    fn add(&mut self, s: u32)
-        requires within { s < 1024 }
-        requires listed { Listed self.old }
-        ensures { Grown (Same s) self.old self.new }
+    /// Finds the states that a state leads to.
+    fn visit<V: Valuing>(self, s: u32, found: &mut Found)
+        ensures { Grown (Leads V.Valuing.valuation (M.Model.process self.entry.model.now) (bounds_of self.entry.bounds.now) s) found.old found.new }
     {
-        if !self.marks[s as usize] {
-            self.marks[s as usize] = true;
-            self.order[self.count] = s;
-            self.count += 1;
+        if !self.model.terminal(s)
+            && self.bounds.expanded(s)
+            && let Some(pick) = self.choose::<V>(s)
+        {
+            self.find_outcomes(s, pick.action, found);
         }
     }
 
-    /// Marks the outcomes of an action.
-    fn add_outcomes<M: Model>(&mut self, model: &M, s: u32, a: u32)
-        requires within { a < length ((M.Model.process model.now).actions s) }
-        requires listed { Listed self.old }
-        ensures { Grown (Among (action_at (M.Model.process model.now) s a).outcomes) self.old self.new }
+    /// The plan's states, in an order that begins at the start.
+    pub(crate) fn planned<V: Valuing>(self) -> Found
+        ensures { Surveyed V.Valuing.valuation (M.Model.process self.entry.model.now) (bounds_of self.entry.bounds.now) result.states }
     {
-        for k in 0..model.outcomes(s, a) {
-            let (to, _) = model.outcome(s, a, k);
-            self.add(to);
+        let mut found = Found::new();
+        found.add(self.model.start());
+        while let Some(s) = found.next() {
+            self.visit::<V>(s, &mut found);
         }
+        found
     }
 
-    /// Marks the states that a state leads to.
-    fn visit<M: Model, V: Valuing>(&mut self, model: &M, bounds: &Bounds, s: u32)
-        requires { Listed self.old }
-        ensures { Grown (Leads V.Valuing.valuation (M.Model.process model.now) (bounds_of bounds.now) s) self.old self.new }
+    /// Whether the plan comes to a state.
+    pub(crate) fn reaches<V: Valuing>(self, s: u32) -> bool
+        ensures { IsTrue result ↔ Planned V.Valuing.valuation (M.Model.process self.entry.model.now) (bounds_of self.entry.bounds.now) s }
     {
-        if !model.terminal(s) && bounds.expanded(s) {
-            let pick = choose::<M, V>(model, bounds, s);
-            if pick.least < model.price() {
-                self.add_outcomes(model, s, pick.action);
-            }
-        }
+        self.planned::<V>().has(s)
     }
-}
-
-/// The plan's states: marked, and in an order that begins at the start.
-pub(crate) fn planned<M: Model, V: Valuing>(model: &M, bounds: &Bounds) -> Found
-    ensures { Surveyed V.Valuing.valuation (M.Model.process model.now) (bounds_of bounds.now) result }
-{
-    let mut found = Found {
-        marks: [false; 1024],
-        order: [0; 1024],
-        count: 0,
-    };
-    found.add(model.start());
-    let mut done = 0;
-    while done < found.count {
-        let s = found.order[done];
-        found.visit::<M, V>(model, bounds, s);
-        done += 1;
-    }
-    found
 }

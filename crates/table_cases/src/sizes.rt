@@ -1,7 +1,5 @@
 //! Files of many records, up to the header's limits.
 
-ghost use Rattle.std.specs.Prelude.{◌<◌};
-
 use crate::case::Refused::*;
 use crate::case::{Verdict, check_load};
 use std::alloc::{AllocError, Global};
@@ -33,18 +31,15 @@ const CASES: [(Shape, Verdict); 17] = [
 ];
 
 /// How many records belong to the owners before `i`.
-fn before(i: u16, owners: u16, records: u16) -> u16
-    requires { 0 < owners }
-{
-    let quotient = u32::from(i) * u32::from(records) / u32::from(owners);
+fn before(i: u16, owners: u16, records: u16) -> u16 {
+    let product = u32::from(i) * u32::from(records);
+    let quotient = product.checked_div(u32::from(owners)).unwrap_or(0);
     u16::try_from(quotient).unwrap_or(u16::MAX)
 }
 
 /// The records that belong to the owner `i`.
-fn share_of(i: u16, owners: u16, records: u16) -> Range<u16>
-    requires { i < owners }
-{
-    before(i, owners, records)..before(i + 1, owners, records)
+fn share_of(i: u16, owners: u16, records: u16) -> Range<u16> {
+    before(i, owners, records)..before(i.saturating_add(1), owners, records)
 }
 
 fn count(share: &Range<u16>) -> u8 {

@@ -38,8 +38,8 @@ impl FilledFile<'_> {
     {
         let state = self.file.state(s);
         let first = u32::from(state.first);
-        for k in 0..u32::from(state.count) {
-            self.check_action(s, first + k)?;
+        for a in first..first + u32::from(state.count) {
+            self.check_action(s, a)?;
         }
         Ok(())
     }

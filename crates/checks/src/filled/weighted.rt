@@ -20,6 +20,7 @@ impl FilledFile<'_> {
     {
         let first = u32::from(action.first);
         let mut sum = 0;
+        // By `k`, since what is summed so far is a run of `k` outcomes from the first.
         for k in 0..u32::from(action.count) {
             let outcome = self.file.outcome(first + k);
             let figure = figure(u32::from(outcome.state));

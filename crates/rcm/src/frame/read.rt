@@ -24,6 +24,8 @@ impl<'a> Framed<'a> {
         self.header
     }
 
+    // One function for each kind of record: they share the test of the number, and read different fields.
+
     /// A state's record; zeros for a state that the file lacks.
     pub fn state(&self, s: u32) -> StateRecord
         ensures { result ≡ state_told version_1 self.now.bytes.now s }

@@ -4,7 +4,6 @@ use Rattle.rcm.specs.Layout.{state_record}
 use Rattle.rcm.specs.Checks.{Consistent}
 use Rattle.checks.proofs.filled.FilledFile.check_state.Given as goal
 
-abbrev pub invariant-loop-k : goal.invariant-loop-k
-invariant-loop-k l =
-    (a : ℕ) → (state_record version_1 l.self.file.bytes.now l.s).first ≤ a →
-    a < (state_record version_1 l.self.file.bytes.now l.s).first + l.k → Consistent version_1 l.self.file.bytes.now l.s a
+abbrev pub invariant-loop-a : goal.invariant-loop-a
+invariant-loop-a l =
+    (a : ℕ) → (state_record version_1 l.self.file.bytes.now l.s).first ≤ a → a < l.a → Consistent version_1 l.self.file.bytes.now l.s a

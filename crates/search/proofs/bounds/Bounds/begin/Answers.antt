@@ -1,8 +1,5 @@
-use Rattle.search.proofs.Beginning.{filled_none, filled_more, filled_all}
+use Rattle.search.proofs.Beginning.{filled_more, filled_all}
 use Rattle.search.proofs.bounds.Bounds.begin.Goals as goal
-
-pub loop-s-init : goal.loop-s-init
-loop-s-init g c = filled_none _
 
 pub loop-s-preserved : goal.loop-s-preserved
 loop-s-preserved g c = filled_more _ _ _ _ c.loop-s-test.true c.loop-s.invariant c.estimate.ensures

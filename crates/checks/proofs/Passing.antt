@@ -1,8 +1,8 @@
 -- The checks of records and rules pass where their rules hold.
-use Rattle.std.proofs.Common.{◌≡◌, ℕ, List, inl, inr}
-use Rattle.faults.specs.declared.Cause.TheVariants.{StateField, ActionField, OutcomeField, Counts, Weights, Consistency}
+use Rattle.std.proofs.Common.{ℕ, List}
+use Rattle.faults.specs.declared.Cause.TheVariants.{StateField, ActionField, OutcomeField, Weights, Consistency}
 use Rattle.rcm.specs.Format.{Format}
-use Rattle.rcm.specs.Layout.{states, actions, outcomes, state_byte, action_byte, outcome_byte, action_count, outcome_count, sum_below}
+use Rattle.rcm.specs.Layout.{states, actions, outcomes, state_byte, action_byte, outcome_byte}
 use Rattle.rcm.specs.Checks.{StatesRule, state_offset, ActionsRule, action_offset, OutcomesRule, outcome_offset, WeightsRule, ConsistencyRule, whole_offset}
 use Rattle.rcm.specs.Checking.{Passed, Holds}
 use Rattle.rcm.proofs.Order.{passed_more}
@@ -17,9 +17,6 @@ module _ (F : Format) (b : List ℕ) where
 
   pub after_outcomes : Passed F b 7 → Holds (outcomes b) (OutcomesRule F b) → Passed F b 8
   after_outcomes passed holds = passed_more F b OutcomeField passed (holds_clear (outcomes b) (outcome_byte F b) outcome_offset (OutcomesRule F b) holds)
-
-  pub after_counts : Passed F b 8 → sum_below (action_count F b) (states b) ≡ actions b → sum_below (outcome_count F b) (actions b) ≡ outcomes b → Passed F b 9
-  after_counts passed e e' = passed_more F b Counts passed (λ r k. elim [ inl f ↦ f.2 e | inr f ↦ f.2 e' ])
 
   pub after_weights : Passed F b 9 → Holds (actions b) (WeightsRule F b) → Passed F b 10
   after_weights passed holds = passed_more F b Weights passed (holds_clear (actions b) (action_byte F b) whole_offset (WeightsRule F b) holds)

@@ -21,6 +21,7 @@ pub(crate) fn check_counts(
     ensures { let b = bytes_of file.now in
         Checked version_1 b Counts (λ _. (of_states ≡ actions b) × (of_actions ≡ outcomes b)) result }
 {
+    // The two tests are of records of two kinds, and tell bytes of their own.
     let head = file.head();
     if of_states != u32::from(head.actions) {
         let last = u32::from(head.states) - 1;

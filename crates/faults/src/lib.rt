@@ -44,7 +44,8 @@ pub enum Place {
     InOutcome,
 }
 
-// Two types where a generic one would do: contracts read by the names `place` and `cause`.
+// Two types where a generic one would do: contracts read by the names `place` and `cause`. The record and the byte are no type
+// of their own: they are told apart wherever a fault is told.
 
 /// A field is outside its limits.
 #[derive(Clone, Copy, PartialEq, Eq, Debug)]

@@ -1,4 +1,4 @@
-//! The answer to any call.
+//! The answer to any call, with what the call gives as it gives it.
 
 use planning::{Advice, Phase};
 

@@ -38,7 +38,7 @@ RecordChecked {X} {Part} place r first_byte offset rule good =
 abbrev pub Checked : {X : Type 0} → Format → List ℕ → Cause → (X → Type 0) → Result X RecordFault → Type 0
 Checked F b c good = λ told. MatchResult told good (λ f. (f.cause ≡ c) × First F b c f.record f.byte)
 
--- what the checks up to here tell: `good`, or the first fault of the file
+-- what the checks up to here tell: `good`, or the first fault of the file; the contracts of public calls say it in full
 abbrev pub Tried : {X : Type 0} → Format → List ℕ → (X → Type 0) → Result X RecordFault → Type 0
 Tried F b good = λ told. MatchResult told good (λ f. FirstFault F b f.cause f.record f.byte)
 

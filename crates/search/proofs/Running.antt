@@ -1,9 +1,9 @@
 -- Steps that can be made, made one after another, are a run. Assumes nothing.
-use Rattle.std.proofs.Common.{◌≡◌, ℕ, ◌+◌, ◌<◌, ◌≤◌, Bool, ◌∙◌, add-one, arith}
+use Rattle.std.proofs.Common.{◌≡◌, ℕ, ◌+◌, ◌<◌, Bool, ◌∙◌, add-one, arith}
 use Rattle.process.specs.Process.{Process, Told}
 use Rattle.process.specs.Valuation.{Valuation}
 use Rattle.planning.specs.Plan.{at_start, onward}
-use Rattle.planning.specs.Steps.{Bounds, Planned, Finished, Run, none, then_expand, then_raise_lower, then_raise_upper, Worked}
+use Rattle.planning.specs.Steps.{Bounds, Planned, Run, none, then_expand, then_raise_lower, then_raise_upper}
 use Rattle.search.specs.Making.{Made, state_of, counted}
 use Rattle.search.specs.Stepping.{Next}
 use Rattle.search.specs.declared.step.Step.{Step}
@@ -58,9 +58,3 @@ module _ (V W : Valuation) (p : Process) where
   module _ (x y : Bounds) (made : ℕ) (t : Tally) (ran : Ran V W p x y made t) where
     pub ran_more : (z : Bounds) (step : Step) (u : Tally) → Next V W p y step → Made step y z → u ≡ counted step t → Ran V W p x z (made + 1) u
     ran_more z step u next does told = rw told (record { run = run_more x y z step t next does ran.run; as_many = omega (arith, counted_one step t, ran.as_many) })
-
-    pub worked_early : (budget : ℕ) → made < budget → Finished V W p y → Worked V W p x y budget t.expansions t.backups
-    worked_early budget h done = record { run = ran.run; within = omega (arith, ran.as_many); stopped = λ _. done }
-
-    pub worked_all : (budget : ℕ) → made ≤ budget → budget ≤ made → Worked V W p x y budget t.expansions t.backups
-    worked_all budget h k = record { run = ran.run; within = omega (arith, ran.as_many); stopped = λ fewer. absurd (omega (arith, ran.as_many)) }

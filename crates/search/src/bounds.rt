@@ -8,37 +8,32 @@ ghost use Rattle.search.specs.Making.{Made, state_of};
 use crate::step::Step;
 use process::Model;
 
-/// What is known of a state: whether it is expanded, a lower figure and an upper figure.
-#[derive(Clone, Copy)]
+/// What is known of a state: whether it is expanded, a lower figure and an upper figure. Before any step, and but for its
+/// estimate, a line is the default.
+#[derive(Clone, Copy, Default)]
 struct Line {
     expanded: bool,
     lower: u32,
     upper: u32,
 }
 
-/// A line for each state, in an array: a search may not fail for want of memory.
+/// A line for each state, in an array: so the interface has it, and a search may not fail for want of memory.
 #[derive(Drop)]
 pub struct Bounds {
     lines: [Line; 1024],
 }
-
-/// A line before any step, but for its estimate.
-const BLANK: Line = Line {
-    expanded: false,
-    lower: 0,
-    upper: 0,
-};
 
 impl Bounds {
     /// The bounds before any step: no state is expanded, the lower figures are the estimates, the upper figures 0.
     pub fn begin<M: Model>(model: &M) -> Bounds
         ensures { Begun (M.Model.process model.now) (bounds_of result) }
     {
-        let mut lines = [BLANK; 1024];
+        let mut lines = [Line::default(); 1024];
         for (s, line) in lines.iter_mut().enumerate() {
             *line = Line {
+                expanded: false,
                 lower: model.estimate(s as u32),
-                ..BLANK
+                upper: 0,
             };
         }
         Bounds { lines }
@@ -47,7 +42,7 @@ impl Bounds {
     fn line(&self, s: u32) -> Line
         ensures { result ≡ line_at self.now s }
     {
-        self.lines.get(s as usize).copied().unwrap_or(BLANK)
+        self.lines.get(s as usize).copied().unwrap_or_default()
     }
 
     /// Whether the state is expanded.

@@ -33,6 +33,7 @@ impl<M: Model> View<'_, M> {
     }
 
     /// The best action of a state. There is none where the state is written off.
+    // Inlined, since each walk asks it of every state that it visits.
     #[inline]
     pub(crate) fn choose<V: Valuing>(self, s: u32) -> Option<Pick>
         ensures { Chosen V.Valuing.valuation (M.Model.process self.entry.model.now) (bounds_of self.entry.bounds.now).lower s result }

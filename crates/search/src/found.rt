@@ -1,5 +1,6 @@
 //! The states that a walk finds: a list, and a mark for each of 1,024 states. Both are arrays, since a search may not fail for
-//! want of memory; contracts see the list alone.
+//! want of memory; a list type of fixed room would save the count, and the marks would stand beside it all the same. Contracts
+//! see the list, and how many of it were visited.
 
 ghost use Rattle.std.specs.Prelude.{◌≡◌, ◌<◌, ◌≤◌, ◌↔◌, [], IsTrue, MatchOption, length};
 ghost use Rattle.std.specs.List.{Contains};

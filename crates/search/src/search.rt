@@ -20,6 +20,9 @@ impl<M: Model> View<'_, M> {
         wanted.then_some(Step::Expand(s))
     }
 
+    // The two backups differ in their figure, their value, their step and the valuations that they need; what is the same is the
+    // test of one number.
+
     /// The lower backup that raises the lower figure of a state.
     fn lower_backup_at<V: Valuing>(self, s: u32) -> Option<Step>
         ensures { RaisesLower V.Valuing.valuation (M.Model.process self.entry.model.now) (bounds_of self.entry.bounds.now) s result }
@@ -48,6 +51,7 @@ impl<M: Model> View<'_, M> {
             MatchOption result (Finished V.Valuing.valuation W.Valuing.valuation p x) (Next V.Valuing.valuation W.Valuing.valuation p x) }
     {
         let found = self.planned::<V>();
+        // Not by `or_else`: its closures hold the others, and their facts do not come through a case of the result.
         if let Some(step) = found.farthest(|s| self.expansion_at(s)) {
             return Some(step);
         }

@@ -1,5 +1,5 @@
 //! The table: a file that passed every check, or nothing. Its type carries the layout and the rules over the borrowed bytes,
-//! so a question needs no test but of the range of its arguments.
+//! so a question needs no test but whether there is a file, and of the range of its arguments.
 
 ghost use Rattle.std.specs.Prelude.{IfSome};
 ghost use Rattle.std.proofs.Props.{props};

@@ -37,7 +37,8 @@ pub enum Change {
     Length(usize),
 }
 
-/// Why a load is refused: the layer, with the cause's number, the record and the byte.
+/// Why a load is refused: the layer, with the cause's number, the record and the byte. Numbers, and not the `LoadFault` itself,
+/// so that a case pins the number of its cause.
 #[derive(Clone, Copy, PartialEq, Eq, Debug)]
 pub enum Refused {
     File(u8, u32, u32),

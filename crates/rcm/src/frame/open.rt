@@ -22,10 +22,10 @@ fn check_length(bytes: &[u8]) -> Result<(), RecordFault>
     ensures { let b = bytes.now in
         Checked version_1 b Length (λ _. LengthRule version_1 b whole) result }
 {
-    if bytes.len() < HEADER_WIDTH as usize || bytes.len() > BYTES_MOST {
-        return Err(Cause::Length.fault(0, 0));
-    }
-    Ok(())
+    (HEADER_WIDTH as usize..=BYTES_MOST)
+        .contains(&bytes.len())
+        .then_some(())
+        .ok_or(Cause::Length.fault(0, 0))
 }
 
 /// Reads the header from what follows the mark and the version.

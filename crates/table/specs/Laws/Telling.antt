@@ -12,16 +12,12 @@ use Rattle.rcm.specs.Laws.Told.{state_here}
 use Rattle.checks.specs.Filling.{Filled}
 use Rattle.checks.specs.Laws.Inside.{actions_inside}
 use Rattle.checks.specs.Laws.Sound.{sound_filled}
+use Rattle.table.specs.Laws.Nothing.{no_states}
 use Rattle.table.specs.Laws.Meaning.{sound_in_order}
-
--- the header and the states of no file are zeros
-none_states : states [] ≡ 0
-unfolding u16_at
-none_states = refl
 
 module _ (F : Format) where
   none_told : (s : ℕ) → nat_lt s (states []) ≡ false
-  none_told s = le-ltb s (states []) (omega (arith, none_states))
+  none_told s = le-ltb s (states []) (omega (arith, no_states))
 
   pub states_told : (b : List ℕ) → (told F b).states ≡ (head_of b).states
   unfolding u16_at
@@ -71,7 +67,7 @@ table_told = in_order version_1 proper_1
 
 -- no file has no states
 pub some_from_state : (b : List ℕ) (s : ℕ) → s < states b → some_bytes b ≡ true
-some_from_state [] s h = absurd (omega (arith, none_states))
+some_from_state [] s h = absurd (omega (arith, no_states))
 some_from_state (x ∷ xs) s h = refl
 
 module _ (F : Format) (b : List ℕ) (sound : Sound F b) where

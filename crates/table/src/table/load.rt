@@ -1,6 +1,6 @@
 //! Loads a table: the file only if every check passes.
 
-ghost use Rattle.std.specs.Prelude.{◌≡◌, [], MatchResult};
+ghost use Rattle.std.specs.Prelude.{◌≡◌, [], MatchResult, MatchOption, IsSomeAnd, None};
 ghost use Rattle.faults.specs.Causes.{layer as layer_of};
 ghost use Rattle.rcm.specs.Format.{version_1};
 ghost use Rattle.rcm.specs.Layout.{told, decoded};
@@ -34,10 +34,10 @@ impl<'a> Table<'a> {
         Ok(())
     }
 
-    /// The bytes of the file that the table holds; none of nothing.
-    pub fn bytes(&self) -> &'a [u8]
-        ensures { result.now ≡ held self.now.file }
+    /// The bytes of the file that the table holds.
+    pub fn bytes(&self) -> Option<&'a [u8]>
+        ensures { MatchOption self.now.file (result ≡ None) (λ f. IsSomeAnd result (λ b. b.now ≡ f.bytes.now)) }
     {
-        self.file.map_or(&[], |file| file.bytes())
+        self.file.map(|file| file.bytes())
     }
 }

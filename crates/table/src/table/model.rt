@@ -70,7 +70,8 @@ impl ProcessModel for Table<'_> {
 }
 
 impl Table<'_> {
-    // What the file tells by number; nothing tells zeros.
+    // What the file tells by number; nothing tells zeros. Each is one call of the library, with the contract that the answers
+    // above rest on; a function over all four would be that call again.
 
     /// The numbers of the header.
     fn head(&self) -> Head

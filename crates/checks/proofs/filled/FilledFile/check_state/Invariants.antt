@@ -1,4 +1,4 @@
-use Rattle.std.proofs.Common.{ℕ, ◌+◌, ◌<◌, ◌≤◌}
+use Rattle.std.proofs.Common.{ℕ, ◌<◌, ◌≤◌}
 use Rattle.rcm.specs.Format.{version_1}
 use Rattle.rcm.specs.Layout.{state_record}
 use Rattle.rcm.specs.Checks.{Consistent}

@@ -1,7 +1,8 @@
 use Rattle.std.proofs.Common.{rules}
 use Rattle.rcm.specs.Format.{version_1}
 use Rattle.rcm.specs.Layout.{action_told}
-use Rattle.table.specs.Laws.Holding.{told_of_held, none_action}
+use Rattle.table.specs.Laws.Holding.{told_of_held}
+use Rattle.table.specs.Laws.Nothing.{none_action}
 use Rattle.table.proofs.table.Table.action_record.Goals as goal
 
 pub returns : goal.returns

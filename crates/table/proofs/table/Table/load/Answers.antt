@@ -1,3 +1,4 @@
+-- That there is one first fault is cited, since it holds of every proper format; of version 1 the check finds it alone.
 use Rattle.std.proofs.Common.{ap, ◌∙◌}
 use Rattle.rcm.specs.Format.{version_1}
 use Rattle.rcm.specs.Layout.{told}

@@ -1,7 +1,8 @@
 use Rattle.std.proofs.Common.{rules}
 use Rattle.rcm.specs.Format.{version_1}
 use Rattle.rcm.specs.Layout.{outcome_told}
-use Rattle.table.specs.Laws.Holding.{told_of_held, none_outcome}
+use Rattle.table.specs.Laws.Holding.{told_of_held}
+use Rattle.table.specs.Laws.Nothing.{none_outcome}
 use Rattle.table.proofs.table.Table.outcome_record.Goals as goal
 
 pub returns : goal.returns

@@ -1,7 +1,8 @@
 use Rattle.std.proofs.Common.{rules}
 use Rattle.rcm.specs.Format.{version_1}
 use Rattle.rcm.specs.Layout.{state_told}
-use Rattle.table.specs.Laws.Holding.{told_of_held, none_state}
+use Rattle.table.specs.Laws.Holding.{told_of_held}
+use Rattle.table.specs.Laws.Nothing.{none_state}
 use Rattle.table.proofs.table.Table.state.Goals as goal
 
 pub returns : goal.returns

@@ -18,6 +18,13 @@ module _ (F : Format) (b : List ℕ) where
   pub after_outcomes : Passed F b 7 → Holds (outcomes b) (OutcomesRule F b) → Passed F b 8
   after_outcomes passed holds = passed_more F b OutcomeField passed (holds_clear (outcomes b) (outcome_byte F b) outcome_offset (OutcomesRule F b) holds)
 
+  -- the sections one after another
+  pub after_two : Passed F b 5 → Holds (states b) (StatesRule F b) → Holds (actions b) (ActionsRule F b) → Passed F b 7
+  after_two passed s a = after_actions (after_states passed s) a
+
+  pub after_three : Passed F b 5 → Holds (states b) (StatesRule F b) → Holds (actions b) (ActionsRule F b) → Holds (outcomes b) (OutcomesRule F b) → Passed F b 8
+  after_three passed s a o = after_outcomes (after_two passed s a) o
+
   pub after_weights : Passed F b 9 → Holds (actions b) (WeightsRule F b) → Passed F b 10
   after_weights passed holds = passed_more F b Weights passed (holds_clear (actions b) (action_byte F b) whole_offset (WeightsRule F b) holds)
 

@@ -4,7 +4,7 @@ ghost use Rattle.faults.specs.declared.Place.TheVariants.{InOutcome};
 ghost use Rattle.rcm.specs.Format.{version_1};
 ghost use Rattle.rcm.specs.Layout.{outcomes, outcome_byte};
 ghost use Rattle.rcm.specs.Checks.{OutcomePart, OutcomesRule, outcome_offset};
-ghost use Rattle.checks.specs.Laws.Offsets.{outcomes_apart};
+ghost use Rattle.checks.specs.Laws.Offsets.{outcomes_apart, itself};
 
 use crate::section::Section;
 use faults::{FieldFault, Place, limited};
@@ -28,7 +28,7 @@ impl Section for OutcomeRecord {
 
     ghost apart = { outcomes_apart };
 
-    ghost fails = { λ b i k. ((λ f. f), (λ f. f)) };
+    ghost fails = { λ _ _ _. itself };
 
     fn size(file: &Framed) -> u16 {
         file.head().outcomes

@@ -5,7 +5,7 @@ ghost use Rattle.faults.specs.declared.Place.TheVariants.{InState};
 ghost use Rattle.rcm.specs.Format.{version_1};
 ghost use Rattle.rcm.specs.Layout.{states, state_byte, action_count};
 ghost use Rattle.rcm.specs.Checks.{StatePart, StatesRule, state_offset, unless_terminal};
-ghost use Rattle.checks.specs.Laws.Offsets.{states_apart};
+ghost use Rattle.checks.specs.Laws.Offsets.{states_apart, itself};
 
 use crate::section::Section;
 use faults::{FieldFault, Place, limited};
@@ -36,7 +36,7 @@ impl Section for StateRecord {
 
     ghost apart = { λ _. states_apart };
 
-    ghost fails = { λ b i k. ((λ f. f), (λ f. f)) };
+    ghost fails = { λ _ _ _. itself };
 
     fn size(file: &Framed) -> u16 {
         file.head().states

@@ -1,5 +1,5 @@
 -- A field stands within its record, and records of one width do not overlap.
-use Rattle.std.specs.Prelude.{List}
+use Rattle.std.specs.Prelude.{List, ◌↔◌}
 use Rattle.std.proofs.Common.{◌≡◌, ℕ, ◌+◌, ◌*◌, ◌<◌, ◌≤◌, mul-le-mul_left, mul-suc, arith, lit<}
 use native.Mathlib.Decide.{dec_lt}
 use Rattle.rcm.specs.Format.{version_1}
@@ -35,3 +35,7 @@ actions_apart b i j p h = omega (arith, action_offset_low p)
 
 pub outcomes_apart : (b : List ℕ) (i j : ℕ) (p : OutcomePart) → i < j → outcome_byte version_1 b i + outcome_offset p < outcome_byte version_1 b j
 outcomes_apart b i j p h = omega (arith, outcome_offset_low p)
+
+-- what a check calls a fault is the broken rule itself
+pub itself : {A : Type 0} → A ↔ A
+itself = ((λ a. a), (λ a. a))

@@ -3,7 +3,7 @@
 ghost use Rattle.std.specs.Prelude.{◌≡◌, ◌+◌, ◌^◌, ◌<◌};
 ghost use Rattle.search.specs.Making.{counted};
 
-/// A state, and the figure that it gets.
+/// A state, and the figure that it gets. As data, since the definitions speak of steps.
 #[derive(Clone, Copy)]
 pub(crate) enum Step {
     Expand(u32),

@@ -28,6 +28,7 @@ pub(crate) trait Section {
 
     ghost owned: { List ℕ → ℕ → ℕ };
 
+    /// What a fault of a field tells of where it stands.
     ghost place: { Place };
 
     /// The number of records.

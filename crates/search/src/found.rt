@@ -67,9 +67,9 @@ impl Found {
         }
     }
 
-    /// What a function gives at the state found last, of those where it gives something. Which of them it is, the contract leaves
-    /// open, as the choice of the next step is.
-    pub(crate) fn farthest<T, F: Fn(u32) -> Option<T>>(&self, at: F) -> Option<T>
+    /// What a function gives at a state where it gives something, from the state found last to the first. The contract says no
+    /// more than that it is one of them, as the choice of the next step is open.
+    pub(crate) fn find_map<T, F: Fn(u32) -> Option<T>>(&self, at: F) -> Option<T>
         requires { F.IsAlwaysCallable at }
         ensures none { result ≡ None → (s : _) → Contains self.now.states s → F.post at s None }
         ensures some { (x : _) → result ≡ Some x → (s : _) × Contains self.now.states s × F.post at s (Some x) }

@@ -52,13 +52,13 @@ impl<M: Model> View<'_, M> {
     {
         let found = self.planned::<V>();
         // Not by `or_else`: its closures hold the others, and their facts do not come through a case of the result.
-        if let Some(step) = found.farthest(|s| self.expansion_at(s)) {
+        if let Some(step) = found.find_map(|s| self.expansion_at(s)) {
             return Some(step);
         }
-        if let Some(step) = found.farthest(|s| self.lower_backup_at::<V>(s)) {
+        if let Some(step) = found.find_map(|s| self.lower_backup_at::<V>(s)) {
             return Some(step);
         }
-        found.farthest(|s| self.upper_backup_at::<V, W>(s))
+        found.find_map(|s| self.upper_backup_at::<V, W>(s))
     }
 
     /// The phase, by what steps are left.

@@ -34,7 +34,7 @@ impl<M: Model> View<'_, M> {
         }
     }
 
-    /// The plan's states, in an order that begins at the start.
+    /// The plan's states, as a walk from the start finds them.
     pub(crate) fn planned<V: Valuing>(self) -> Found
         ensures { Surveyed V.Valuing.valuation (M.Model.process self.entry.model.now) (bounds_of self.entry.bounds.now) result.states }
     {

@@ -1,10 +1,10 @@
 -- One pass over the actions of a state finds the first of the least values below the price. Assumes nothing.
-use Rattle.std.proofs.Common.{◌≡◌, ℕ, ◌+◌, ◌<◌, ◌≤◌, Option, Some, None, MatchOption, length, sym, arith}
+use Rattle.std.proofs.Common.{◌≡◌, ℕ, ◌+◌, ◌<◌, ◌≤◌, Option, Some, None, length, sym, subst, arith}
 use native.Mathlib.Decide.{dec_lt}
 use Rattle.process.specs.Process.{Process, action_at}
 use Rattle.process.specs.Valuation.{Valuation}
 use Rattle.planning.specs.Plan.{value, backup}
-use Rattle.search.specs.Choosing.{Chosen}
+use Rattle.search.specs.Choosing.{Best}
 use Rattle.search.specs.declared.choice.Pick.{Pick}
 use Rattle.planning.proofs.Basics.{backup_le_price, backup_le_value, backup_greatest, best_is}
 
@@ -19,24 +19,15 @@ pub record FirstLeast (v : ℕ → ℕ) (n : ℕ) (pick : Pick) : Type 0 where
   pub least : (b : ℕ) → b < n → pick.value ≤ v b
   pub first : (b : ℕ) → b < pick.action → pick.value < v b
 
--- what a value has to be below
-abbrev pub bar : ℕ → Option Pick → ℕ
-bar cap None = cap
-bar cap (Some pick) = pick.value
-
-pub bar_is : (cap : ℕ) (best : Option Pick) (n : ℕ) {Q : Pick → Type 0} → MatchOption best (n ≡ cap) Q → ((pick : Pick) → Q pick → n ≡ pick.value) → n ≡ bar cap best
-bar_is cap None n told at_some = told
-bar_is cap (Some pick) n told at_some = at_some pick told
-
--- the first of the least of the first n values that are below the cap, if there are any
-abbrev pub LeastOf : (ℕ → ℕ) → ℕ → ℕ → Option Pick → Type 0
-LeastOf v cap n None = (b : ℕ) → b < n → cap ≤ v b
-LeastOf v cap n (Some pick) = (pick.value < cap) × FirstLeast v n pick
+-- the best of the first n values that are below the cap is the first of the least, and where there are none the bar is the cap
+abbrev pub LeastOf : (ℕ → ℕ) → ℕ → ℕ → Option ℕ → ℕ → Type 0
+LeastOf v cap n None bar = (bar ≡ cap) × ((b : ℕ) → b < n → cap ≤ v b)
+LeastOf v cap n (Some action) bar = (bar < cap) × FirstLeast v n (record { action = action; value = bar })
 
 module _ (v : ℕ → ℕ) (cap : ℕ) where
-  pub least_kept : (n : ℕ) (best : Option Pick) → LeastOf v cap n best → bar cap best ≤ v n → LeastOf v cap (n + 1) best
-  least_kept n None so_far h = λ b w. elim (dec_lt b n) [ yes below ↦ so_far b below | no above ↦ let e : b ≡ n = omega arith in rw e h ]
-  least_kept n (Some pick) so_far h = (
+  pub least_kept : (n : ℕ) (best : Option ℕ) (bar : ℕ) → LeastOf v cap n best bar → bar ≤ v n → LeastOf v cap (n + 1) best bar
+  least_kept n None bar so_far h = (so_far.0, λ b w. elim (dec_lt b n) [ yes below ↦ so_far.1 b below | no above ↦ let e : b ≡ n = omega arith in rw e (omega (arith, so_far.0)) ])
+  least_kept n (Some action) bar so_far h = (
     so_far.0,
     record {
       within = omega (arith, so_far.1.within);
@@ -47,13 +38,13 @@ module _ (v : ℕ → ℕ) (cap : ℕ) where
   )
 
   -- what is below the bar is below each value so far
-  above_bar : (n : ℕ) (best : Option Pick) → LeastOf v cap n best → (bar cap best ≤ cap) × ((b : ℕ) → b < n → bar cap best ≤ v b)
-  above_bar n None so_far = (omega arith, so_far)
-  above_bar n (Some pick) so_far = (omega (arith, so_far.0), so_far.1.least)
+  above_bar : (n : ℕ) (best : Option ℕ) (bar : ℕ) → LeastOf v cap n best bar → (bar ≤ cap) × ((b : ℕ) → b < n → bar ≤ v b)
+  above_bar n None bar so_far = (omega (arith, so_far.0), λ b w. omega (arith, so_far.0, so_far.1 b w))
+  above_bar n (Some action) bar so_far = (omega (arith, so_far.0), so_far.1.least)
 
-  pub least_found : (n : ℕ) (best : Option Pick) → LeastOf v cap n best → (x : ℕ) → x ≡ v n → x < bar cap best → LeastOf v cap (n + 1) (Some (record { action = n; value = x }))
-  least_found n best so_far x told h =
-      let above = above_bar n best so_far in (
+  pub least_found : (n : ℕ) (best : Option ℕ) (bar : ℕ) → LeastOf v cap n best bar → (x : ℕ) → x ≡ v n → x < bar → LeastOf v cap (n + 1) (Some n) x
+  least_found n best bar so_far x told h =
+      let above = above_bar n best bar so_far in (
         omega (arith, above.0),
         record {
           within = omega arith;
@@ -63,14 +54,24 @@ module _ (v : ℕ → ℕ) (cap : ℕ) where
         },
       )
 
-module _ (V : Valuation) (p : Process) (f : ℕ → ℕ) (s cap n : ℕ) (told : cap ≡ p.price) (whole : n ≡ length (p.actions s)) where
-  pub chosen : (best : Option Pick) → LeastOf (worth_of V p f s) cap n best → Chosen V p f s best
-  chosen None none = omega (arith, backup_le_price V p f s, backup_greatest V p f s p.price (omega arith) (λ a h. omega (arith, none a)))
-  chosen (Some pick) one =
-      let is : pick.value ≡ backup V p f s = omega (arith, backup_le_value V p f s pick.action (omega (arith, one.1.within)), one.1.here, backup_greatest V p f s pick.value (omega (arith, one.0)) (λ a h. one.1.least a (omega arith))) in
-      record {
-        worth = omega (arith, one.0);
-        within = omega (arith, one.1.within);
-        action_is = sym (best_is V p f s pick.action (omega (arith, one.1.within)) (λ b h. omega (arith, one.1.here, one.1.least b (omega arith))) (λ b h. omega (arith, one.1.here, one.1.first b h)));
-        value_is = is;
+module _ (V : Valuation) (p : Process) (f : ℕ → ℕ) (s n bar : ℕ) (whole : n ≡ length (p.actions s)) where
+  -- no action is below the cap
+  pub none_chosen : (best : Option ℕ) → LeastOf (worth_of V p f s) p.price n best bar → best ≡ None → backup V p f s ≡ p.price
+  none_chosen best so_far is = none (subst (λ (b : Option ℕ). LeastOf (worth_of V p f s) p.price n b bar) is so_far)
+    where
+      none : LeastOf (worth_of V p f s) p.price n None bar → backup V p f s ≡ p.price
+      none all = omega (arith, backup_le_price V p f s, backup_greatest V p f s p.price (omega arith) (λ a h. all.1 a (omega arith)))
+
+  pub chosen : (best : Option ℕ) (action : ℕ) → LeastOf (worth_of V p f s) p.price n best bar → best ≡ Some action → Best V p f s (record { action = action; value = bar })
+  chosen best action so_far is = one (subst (λ (b : Option ℕ). LeastOf (worth_of V p f s) p.price n b bar) is so_far)
+    where
+      one : LeastOf (worth_of V p f s) p.price n (Some action) bar → Best V p f s (record { action = action; value = bar })
+      one all = record {
+        worth = omega (arith, all.0, value_is);
+        within = omega (arith, all.1.within);
+        action_is = sym (best_is V p f s action (omega (arith, all.1.within)) (λ b h. omega (arith, all.1.here, all.1.least b (omega arith))) (λ b h. omega (arith, all.1.here, all.1.first b h)));
+        value_is = value_is;
       }
+        where
+          value_is : bar ≡ backup V p f s
+          value_is = omega (arith, backup_le_value V p f s action (omega (arith, all.1.within)), all.1.here, backup_greatest V p f s bar (omega (arith, all.0)) (λ a h. all.1.least a (omega arith)))

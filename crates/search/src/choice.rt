@@ -24,12 +24,14 @@ impl<M: Model> View<'_, M> {
         ensures { let p = M.Model.process self.entry.model.now in
             (f : ℕ → ℕ) → ((to n : ℕ) → to < 2 ^ 32 → F.post figure to n → n ≡ f to) → result ≡ value V.Valuing.valuation p f (action_at p s a) }
     {
+        // Read first, beside the number of outcomes: a model reads both from one place.
+        let cost = self.model.cost(s, a);
         let mut all = V::none();
         for k in 0..self.model.outcomes(s, a) {
             let (to, weight) = self.model.outcome(s, a, k);
             all = V::gather(all, figure(to), weight);
         }
-        V::close(all, self.model.total(), self.model.cost(s, a))
+        V::close(all, self.model.total(), cost)
     }
 
     /// The best action of a state. There is none where the state is written off.
@@ -38,19 +40,20 @@ impl<M: Model> View<'_, M> {
     pub(crate) fn choose<V: Valuing>(self, s: u32) -> Option<Pick>
         ensures { Chosen V.Valuing.valuation (M.Model.process self.entry.model.now) (bounds_of self.entry.bounds.now).lower s result }
     {
-        let price = self.model.price();
-        let mut best: Option<Pick> = None;
+        let mut least = self.model.price();
+        let mut best = None;
         for a in 0..self.model.actions(s) {
             let value = self.action_value::<V, _>(s, a, |to| self.bounds.lower(to));
-            let least = best.map_or(price, |pick| pick.value);
             if value < u64::from(least) {
-                best = Some(Pick {
-                    action: a,
-                    value: value as u32,
-                });
+                least = value as u32;
+                best = Some(a);
             }
         }
-        best
+        let action = best?;
+        Some(Pick {
+            action,
+            value: least,
+        })
     }
 
     /// What a lower backup of a state gives.

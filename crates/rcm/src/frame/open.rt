@@ -97,6 +97,20 @@ fn check_sections(bytes: &[u8], head: Head) -> Result<(), RecordFault>
     Ok(())
 }
 
+/// The checks of the file as a whole, in their order. Gives the header.
+fn check_frame(bytes: &[u8]) -> Result<Head, RecordFault>
+    ensures { let b = bytes.now in
+        MatchResult result
+        (λ h. (h ≡ head_of b) × WellFramed version_1 b × Passed version_1 b 5)
+        (λ f. (layer_of f.cause ≡ File) × FirstFault version_1 b f.cause f.«record» f.byte) }
+{
+    check_length(bytes)?;
+    let head = check_opening(bytes)?;
+    check_header(head)?;
+    check_sections(bytes, head)?;
+    Ok(head)
+}
+
 impl<'a> Framed<'a> {
     /// Takes a file if none of the checks of it as a whole fails. Else tells the first that fails.
     pub fn open(bytes: &'a [u8]) -> Result<Framed<'a>, RecordFault>
@@ -105,10 +119,7 @@ impl<'a> Framed<'a> {
             (λ file. file.bytes.now ≡ b)
             (λ f. (layer_of f.cause ≡ File) × FirstFault version_1 b f.cause f.«record» f.byte) }
     {
-        check_length(bytes)?;
-        let header = check_opening(bytes)?;
-        check_header(header)?;
-        check_sections(bytes, header)?;
+        let header = check_frame(bytes)?;
         Ok(Framed { bytes, header })
     }
 }

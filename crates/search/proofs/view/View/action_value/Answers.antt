@@ -15,4 +15,4 @@ returns g c = λ f tells.
     let action = taken _ _ (g.met.M.Model.told c.args.self.model.now) _ _ c.requires.within in
     let so_far = c.loop-k.invariant f tells in
     c.close.ensures _ (all_same _ _ _ _ _ so_far (omega (arith, c.outcomes-k-end.ensures))) (all_light _ _ _ _ _ so_far (omega (arith, c.outcomes-k-end.ensures)) action.light) (omega (arith, action.some_total, c.total.ensures))
-    ∙ (cc (c.total.ensures, c.cost.ensures))
+    ∙ (cc (c.total.ensures, c.cost-cost.ensures))

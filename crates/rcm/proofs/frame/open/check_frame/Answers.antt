@@ -8,23 +8,18 @@ use Rattle.rcm.specs.Format.{version_1}
 use Rattle.rcm.specs.Checks.{HeaderPart, HeaderRule}
 use Rattle.rcm.specs.Laws.Rules.{framed_by}
 use Rattle.rcm.proofs.Order.{fault_of, after_length, after_opening, after_header, after_sections}
-use Rattle.rcm.proofs.frame.Framed.open.Goals as goal
+use Rattle.rcm.proofs.frame.open.check_frame.Goals as goal
 
-pub returns-in_err-header : goal.returns-in_err-header
-returns-in_err-header c =
-    let p = err_from_is_err_and c.from_residual-in_err-header.result c.from_residual-in_err-header.ensures.1 in
-    let fault = c.in_err-header.ensures in
+pub returns-in_err-head : goal.returns-in_err-head
+returns-in_err-head c =
+    let p = err_from_is_err_and c.from_residual-in_err-head.result c.from_residual-in_err-head.ensures.1 in
+    let fault = c.in_err-head.ensures in
     rw (p.1, p.2) (ap layer fault.0, fault_of version_1 _ Opening _ (after_length version_1 _ c.in_ok-check_length.ensures) fault)
 
-pub invariant_of-result : goal.invariant_of-result
-invariant_of-result c =
-    let opened = c.in_ok-header.ensures in
+pub returns : goal.returns
+returns c =
+    let opened = c.in_ok-head.ensures in
     let passed-3 = after_opening version_1 _ (after_length version_1 _ c.in_ok-check_length.ensures) opened.1 in
     let header = subst (λ (h : Head). (p : HeaderPart) → HeaderRule version_1 h p) opened.0 c.in_ok-check_header.ensures.1 in
     let sections = c.in_ok-check_sections.ensures in
-    let framed = framed_by version_1 _ header sections in
-    record {
-      framed = (framed.some_state, framed.states_few, framed.actions_few, framed.outcomes_few, framed.ended);
-      passed = after_sections version_1 _ (after_header version_1 _ passed-3 header) sections;
-      headed = opened.0;
-    }
+    (opened.0, framed_by version_1 _ header sections, after_sections version_1 _ (after_header version_1 _ passed-3 header) sections)

@@ -1,5 +1,5 @@
 -- One pass over the actions of a state finds the first of the least values below the price. Assumes nothing.
-use Rattle.std.proofs.Common.{◌≡◌, ℕ, ◌+◌, ◌<◌, ◌≤◌, Option, Some, None, length, sym, subst, arith}
+use Rattle.std.proofs.Common.{◌≡◌, ℕ, ◌+◌, ◌<◌, ◌≤◌, Option, Some, None, MatchOption, length, sym, arith}
 use native.Mathlib.Decide.{dec_lt}
 use Rattle.process.specs.Process.{Process, action_at}
 use Rattle.process.specs.Valuation.{Valuation}
@@ -19,7 +19,7 @@ pub record FirstLeast (v : ℕ → ℕ) (n : ℕ) (pick : Pick) : Type 0 where
   pub least : (b : ℕ) → b < n → pick.value ≤ v b
   pub first : (b : ℕ) → b < pick.action → pick.value < v b
 
--- the best of the first n values that are below the cap is the first of the least, and where there are none the bar is the cap
+-- the first of the least of the first n values that are below the cap, if there are any, and what a value has to be below
 abbrev pub LeastOf : (ℕ → ℕ) → ℕ → ℕ → Option ℕ → ℕ → Type 0
 LeastOf v cap n None bar = (bar ≡ cap) × ((b : ℕ) → b < n → cap ≤ v b)
 LeastOf v cap n (Some action) bar = (bar < cap) × FirstLeast v n (record { action = action; value = bar })
@@ -55,23 +55,14 @@ module _ (v : ℕ → ℕ) (cap : ℕ) where
       )
 
 module _ (V : Valuation) (p : Process) (f : ℕ → ℕ) (s n bar : ℕ) (whole : n ≡ length (p.actions s)) where
-  -- no action is below the cap
-  pub none_chosen : (best : Option ℕ) → LeastOf (worth_of V p f s) p.price n best bar → best ≡ None → backup V p f s ≡ p.price
-  none_chosen best so_far is = none (subst (λ (b : Option ℕ). LeastOf (worth_of V p f s) p.price n b bar) is so_far)
-    where
-      none : LeastOf (worth_of V p f s) p.price n None bar → backup V p f s ≡ p.price
-      none all = omega (arith, backup_le_price V p f s, backup_greatest V p f s p.price (omega arith) (λ a h. all.1 a (omega arith)))
-
-  pub chosen : (best : Option ℕ) (action : ℕ) → LeastOf (worth_of V p f s) p.price n best bar → best ≡ Some action → Best V p f s (record { action = action; value = bar })
-  chosen best action so_far is = one (subst (λ (b : Option ℕ). LeastOf (worth_of V p f s) p.price n b bar) is so_far)
-    where
-      one : LeastOf (worth_of V p f s) p.price n (Some action) bar → Best V p f s (record { action = action; value = bar })
-      one all = record {
-        worth = omega (arith, all.0, value_is);
-        within = omega (arith, all.1.within);
-        action_is = sym (best_is V p f s action (omega (arith, all.1.within)) (λ b h. omega (arith, all.1.here, all.1.least b (omega arith))) (λ b h. omega (arith, all.1.here, all.1.first b h)));
-        value_is = value_is;
+  -- where no action is below the price, the backup is the price
+  pub chosen : (best : Option ℕ) → LeastOf (worth_of V p f s) p.price n best bar → MatchOption best (backup V p f s ≡ p.price) (λ action. Best V p f s (record { action = action; value = bar }))
+  chosen None none = omega (arith, backup_le_price V p f s, backup_greatest V p f s p.price (omega arith) (λ a h. none.1 a (omega arith)))
+  chosen (Some action) one =
+      let is : bar ≡ backup V p f s = omega (arith, backup_le_value V p f s action (omega (arith, one.1.within)), one.1.here, backup_greatest V p f s bar (omega (arith, one.0)) (λ a h. one.1.least a (omega arith))) in
+      record {
+        worth = omega (arith, one.0, is);
+        within = omega (arith, one.1.within);
+        action_is = sym (best_is V p f s action (omega (arith, one.1.within)) (λ b h. omega (arith, one.1.here, one.1.least b (omega arith))) (λ b h. omega (arith, one.1.here, one.1.first b h)));
+        value_is = is;
       }
-        where
-          value_is : bar ≡ backup V p f s
-          value_is = omega (arith, backup_le_value V p f s action (omega (arith, all.1.within)), all.1.here, backup_greatest V p f s bar (omega (arith, all.0)) (λ a h. all.1.least a (omega arith)))

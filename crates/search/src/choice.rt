@@ -24,7 +24,7 @@ impl<M: Model> View<'_, M> {
         ensures { let p = M.Model.process self.entry.model.now in
             (f : ℕ → ℕ) → ((to n : ℕ) → to < 2 ^ 32 → F.post figure to n → n ≡ f to) → result ≡ value V.Valuing.valuation p f (action_at p s a) }
     {
-        // Read first, beside the number of outcomes: a model reads both from one place.
+        // Read first, beside the number of outcomes: a table has both in one record.
         let cost = self.model.cost(s, a);
         let mut all = V::none();
         for k in 0..self.model.outcomes(s, a) {

@@ -1,7 +1,7 @@
 -- An action below the bar becomes the best; another leaves the best as it is.
-use Rattle.std.proofs.Common.{◌≡◌, None, Some, arith, rules}
+use Rattle.std.proofs.Common.{◌≡◌, arith, rules}
 use Rattle.search.specs.Lines.{bounds_of}
-use Rattle.search.proofs.BestAction.{worth_of, least_kept, least_found, none_chosen, chosen}
+use Rattle.search.proofs.BestAction.{worth_of, least_kept, least_found, chosen}
 use Rattle.search.proofs.view.View.choose.Goals as goal
 use Rattle.search.proofs.view.View.choose.Goals.{then-value-from, else-value-from}
 
@@ -16,11 +16,10 @@ loop-a-preserved g c =
 
 pub returns-in_err-action : goal.returns-in_err-action
 returns-in_err-action g c =
-    let none : c.loop-a.best ≡ None = search rules in
-    let given : c.from_residual.result ≡ None = search rules in
-    rw given (none_chosen g.V.Valuing.valuation (g.M.Model.process c.args.self.model.now) (bounds_of c.args.self.bounds.now).lower c.args.s c.loop-a.a _ (omega (arith, c.actions-a-end.ensures)) _ c.loop-a.invariant none)
+    let told = chosen g.V.Valuing.valuation (g.M.Model.process c.args.self.model.now) (bounds_of c.args.self.bounds.now).lower c.args.s c.loop-a.a _ (omega (arith, c.actions-a-end.ensures)) _ c.loop-a.invariant in
+    search (rules, told)
 
 pub returns : goal.returns
 returns g c =
-    let some : c.loop-a.best ≡ Some c.in_ok-action.action = search rules in
-    chosen g.V.Valuing.valuation (g.M.Model.process c.args.self.model.now) (bounds_of c.args.self.bounds.now).lower c.args.s c.loop-a.a _ (omega (arith, c.actions-a-end.ensures)) _ _ c.loop-a.invariant some
+    let told = chosen g.V.Valuing.valuation (g.M.Model.process c.args.self.model.now) (bounds_of c.args.self.bounds.now).lower c.args.s c.loop-a.a _ (omega (arith, c.actions-a-end.ensures)) _ c.loop-a.invariant in
+    search (rules, told)
